@@ -1,0 +1,3 @@
+pub mod Told
+pub mod Refusals
+pub mod Answers
