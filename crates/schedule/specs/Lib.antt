@@ -1,2 +1,5 @@
 pub mod Records
 pub mod Reading
+pub mod Schedules
+pub mod Whole
+pub mod Lines

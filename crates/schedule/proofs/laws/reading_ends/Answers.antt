@@ -1,0 +1,5 @@
+use Rattle.schedule.proofs.Trips.{reading-ends}
+use Rattle.schedule.proofs.laws.reading_ends.Needs as need
+
+pub returns : need.returns
+returns c = reading-ends

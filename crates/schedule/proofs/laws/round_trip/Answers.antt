@@ -1,0 +1,5 @@
+use Rattle.schedule.proofs.Trips.{round-trip}
+use Rattle.schedule.proofs.laws.round_trip.Needs as need
+
+pub returns : need.returns
+returns c = round-trip
