@@ -3,12 +3,13 @@ use mathlib.Core.Path.{_≡_, refl, sym, ap, subst, _∙_}
 use mathlib.Core.Bool.{Bool, true, false, cond}
 use mathlib.Core.List.{List, [], _∷_, _++_}
 use mathlib.Core.Logic.{_⊎_, inl, inr}
-use Prim.Native.Nat.{ℕ, zero, suc, _+_, _-_, _/_, _%_, _^_, _≤_, _<_}
+use Prim.Native.Nat.{ℕ, zero, suc, _+_, _*_, _-_, _/_, _%_, _^_, _≤_, _<_}
 use native.Mathlib.Omega.{arith}
 use lib.Dec.{eqb, ltb, lit<}
 use lib.ListN.{length}
 use Rattle.std.proofs.shelf.Lists.{append-assoc, length-append}
-use Rattle.std.proofs.shelf.Elements.{all-append}
+use Rattle.std.proofs.shelf.Elements.{all-append, all-weaker}
+use Rattle.std.proofs.shelf.Bits.{mul-le}
 use Rattle.std.proofs.shelf.Tests.{cond-false, le-ltb, eqb-true}
 use Rattle.std.specs.declared.option.Option.{Option}
 use Rattle.std.specs.declared.option.Option.the-variants.{Some, None}
@@ -124,11 +125,11 @@ from zero first total offset [] b e h = none-from first offset [] (inl refl)
 from zero first total offset (x ∷ rest) b e h = absurd (omega arith)
 from (suc n) first total offset rest b e h =
     elim (next-of first total rest) as (λ a. next-of first total rest ≡ a → From first offset rest (read-more (read-on n false total) rest a)) [
-      handed x left ↦ λ is.
+      | handed x left ↦ λ is.
           let out = next-handed first total rest x left is in
-          one-from first total offset rest x left (read-on n false total left) b e out (λ o e b. from n false total o left b e (omega (arith, out .cut .shorter)))
-    | ended ↦ λ is. none-from first offset rest (inl (next-ended first total rest is))
-    | malformed ↦ λ is. none-from first offset rest (inr (next-malformed first total rest is))
+          one-from first total offset rest x left (read-on n false total left) b e out (λ o e b. from n false total o left b e (omega (arith, out .shorter)))
+      | ended ↦ λ is. none-from first offset rest (inl (next-ended first total rest is))
+      | malformed ↦ λ is. none-from first offset rest (inr (next-malformed first total rest is))
     ] refl
 
 -- a test that gave none took the second way
@@ -140,21 +141,22 @@ second false n o e = (refl, e)
 begins-with-one : (x : ℕ) (rest : List ℕ) → open-refusal (x ∷ rest) ≡ None → x ≡ 1
 begins-with-one x rest e = go (eqb x 1) (eqb-true x 1) (second (ltb 60000 (length (x ∷ rest))) 9 (no-first-byte (x ∷ rest)) e .1)
   where
-  go : (b : Bool) → (b ≡ true → x ≡ 1) → cond {A = Option ℕ} b None (Some 10) ≡ None → x ≡ 1
-  go true is e = is refl
-  go false is e = none-left (sym e)
+    go : (b : Bool) → (b ≡ true → x ≡ 1) → cond {A = Option ℕ} b None (Some 10) ≡ None → x ≡ 1
+    go true is e = is refl
+    go false is e = none-left (sym e)
 
-pub round-trip : Round-trip
-round-trip rs l h = (
+-- each law holds up to its bound
+pub round-trip : (limit : ℕ) → limit ≤ 60000 → Round-trip limit
+round-trip limit most rs l h = (
   (lit< tt, joined-bytes true rs l),
-  cond-false _ _ _ (le-ltb 60000 (length (schedule rs)) h),
-  back (length (joined written rs)) true (length (schedule rs)) 1 rs l (omega arith) (omega arith),
+  cond-false _ _ _ (le-ltb 60000 (length (schedule rs)) (omega arith)),
+  back (length (schedule rs)) true (length (schedule rs)) 1 rs l (omega arith) (omega arith),
 )
 
-pub nothing-lost : Nothing-lost
-nothing-lost [] b e = none-left (sym e)
-nothing-lost (x ∷ rest) b e =
-    let all = from (length rest) true (length (x ∷ rest)) 1 rest (b .1) (omega arith) (omega arith) in
+pub nothing-lost : (bound : ℕ) → bound ≤ 256 → Nothing-lost bound
+nothing-lost bound most [] b e = none-left (sym e)
+nothing-lost bound most (x ∷ rest) b e =
+    let all = from (length (x ∷ rest)) true (length (x ∷ rest)) 1 rest (all-weaker (λ b. b < bound) (λ b. b < 256) (λ b h. omega arith) rest (b .1)) (omega arith) (omega arith) in
     record {
       records = all .records;
       lawful = all .lawful;
@@ -163,20 +165,24 @@ nothing-lost (x ∷ rest) b e =
       stops = all .stops;
     }
 
--- each asking that hands out a record leaves fewer bytes, so the askings do not run out
-ends : (n : ℕ) (first : Bool) (total : ℕ) (rest : List ℕ) → length rest ≤ n → Stops (next-of (still first (read-on n first total rest .entries)) total (read-on n first total rest .rest))
+-- each asking that hands out a record leaves at least four bytes fewer, so the askings do not run out
+ends : (n : ℕ) (first : Bool) (total : ℕ) (rest : List ℕ) → length rest < 4 * n + 4 → Stops (next-of (still first (read-on n first total rest .entries)) total (read-on n first total rest .rest))
 unfolding read-on
-ends zero first total [] h = tt
-ends zero first total (x ∷ rest) h = absurd (omega arith)
+ends zero first total rest h =
+    elim (next-of first total rest) as (λ a. next-of first total rest ≡ a → Stops a) [
+      handed x left ↦ λ is. omega (arith, next-handed first total rest x left is .shorter)
+    | ended ↦ λ is. tt
+    | malformed ↦ λ is. tt
+    ] refl
 ends (suc n) first total rest h =
     elim (next-of first total rest) as (λ a. next-of first total rest ≡ a → Stops (next-of (still first (read-more (read-on n false total) rest a .entries)) total (read-more (read-on n false total) rest a .rest))) [
       handed x left ↦ λ is.
           let out = next-handed first total rest x left is in
-          subst (λ f. Stops (next-of f total (read-on n false total left .rest))) (still-false (read-on n false total left .entries)) (ends n false total left (omega (arith, out .cut .shorter)))
+          subst (λ f. Stops (next-of f total (read-on n false total left .rest))) (still-false (read-on n false total left .entries)) (ends n false total left (omega (arith, out .shorter)))
     | ended ↦ λ is. subst Stops (sym is) tt
     | malformed ↦ λ is. subst Stops (sym is) tt
     ] refl
 
-pub reading-ends : Reading-ends
-reading-ends [] e = none-left (sym e)
-reading-ends (x ∷ rest) e = ends (length rest) true (length (x ∷ rest)) rest (omega arith)
+pub reading-ends : (each : ℕ) → each ≤ 4 → Reading-ends each
+reading-ends each most [] n e h = none-left (sym e)
+reading-ends each most (x ∷ rest) n e h = ends n true (length (x ∷ rest)) rest (omega (arith, mul-le each n 4 n most (omega arith)))

@@ -56,8 +56,8 @@ module _ {X : Type 0} (P : X → Type 0) (c : ℕ) (r : X) where
   tested : (n : ℕ) (x : X) (o : Option X) → (c ≡ n → P x) → (o ≡ Some r → P r) → cond (eqb c n) (Some x) o ≡ Some r → P r
   tested n x o here others =
       elim (eqb c n) as (λ b. (b ≡ true → P x) → cond b (Some x) o ≡ Some r → P r) [
-        true ↦ λ here e. let same : x ≡ r = cc in subst P same (here refl)
-      | false ↦ λ here e. others e
+        | true ↦ λ here e. let same : x ≡ r = cc in subst P same (here refl)
+        | false ↦ λ here e. others e
       ] (λ t. here (eqb-true c n t))
 
 -- nothing is not something
@@ -89,12 +89,12 @@ scheme-number n s =
 setup-says : (c n cells window : ℕ) (bytes : List ℕ) (r : Record) → cells < 2 ^ 16 → window < 256 → bytes ≡ two cells → setup-call c n cells window ≡ Some r → Says (c ∷ n ∷ (bytes ++ window ∷ [])) r
 setup-says c n cells window bytes r f g w = go (eqb c 0) (scheme-named n) (eqb-true c 0) (scheme-number n)
   where
-  go : (b : Bool) (o : Option SchemeName) → (b ≡ true → c ≡ 0) → ((s : SchemeName) → o ≡ Some s → n ≡ scheme s .number) → cond b (mapped (λ s. Setup s cells window) o) None ≡ Some r → Says (c ∷ n ∷ (bytes ++ window ∷ [])) r
-  go true (Some s) call named e =
-      let same : Setup s cells window ≡ r = cc in
-      subst (Says _) same ((λ i. call refl i ∷ named s refl i ∷ (w i ++ window ∷ [])), (f, g))
-  go true None call named e = none-left e
-  go false o call named e = none-left e
+    go : (b : Bool) (o : Option SchemeName) → (b ≡ true → c ≡ 0) → ((s : SchemeName) → o ≡ Some s → n ≡ scheme s .number) → cond b (mapped (λ s. Setup s cells window) o) None ≡ Some r → Says (c ∷ n ∷ (bytes ++ window ∷ [])) r
+    go true (Some s) call named e =
+        let same : Setup s cells window ≡ r = cc in
+        subst (Says _) same ((λ i. call refl i ∷ named s refl i ∷ (w i ++ window ∷ [])), (f, g))
+    go true None call named e = none-left e
+    go false o call named e = none-left e
 
 -- bytes that say a record are what is written of it
 pub decoded-says : (bytes : List ℕ) (r : Record) → Bytes bytes → decoded bytes ≡ Some r → Says bytes r

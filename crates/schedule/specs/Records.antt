@@ -9,6 +9,7 @@ use lib.ListN.{length}
 use Rattle.std.specs.declared.option.Option.{Option}
 use Rattle.std.specs.declared.option.Option.the-variants.{Some, None}
 use Rattle.std.specs.Options.{mapped}
+use Rattle.std.specs.Written.{decimal}
 use Rattle.basis.specs.Told.{Case, told}
 use Rattle.basis.specs.declared.kind.Kind.{Kind}
 use Rattle.basis.specs.declared.kind.Kind.the-variants.{Lookup, Insert, Remove}
@@ -37,6 +38,19 @@ said (Leave seat) = told 2 (codes "leave") (seat ∷ [])
 said (Begin k seat sector) = begin k (seat ∷ sector ∷ [])
 said (Step seat) = told 6 (codes "step") (seat ∷ [])
 said (Abandon seat) = told 7 (codes "abandon") (seat ∷ [])
+
+-- a comma, a name and a number
+abbrev pub named : List ℕ → ℕ → List ℕ
+named name n = codes ", " ++ (name ++ 32 ∷ decimal n)
+
+-- a record, for a person: its word, and each value after its name
+abbrev pub described : Record → List ℕ
+described (Setup s cells window) = codes "setup " ++ (scheme s .word ++ (named (codes "cells") cells ++ named (codes "window") window))
+described (Join seat) = codes "join" ++ named (codes "seat") seat
+described (Leave seat) = codes "leave" ++ named (codes "seat") seat
+described (Begin k seat sector) = begin k [] .word ++ (named (codes "seat") seat ++ named (codes "sector") sector)
+described (Step seat) = codes "step" ++ named (codes "seat") seat
+described (Abandon seat) = codes "abandon" ++ named (codes "seat") seat
 
 -- whether a record is a setup, which has to be the first record and no other
 abbrev pub is-setup : Record → Bool

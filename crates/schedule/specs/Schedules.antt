@@ -3,7 +3,7 @@ use mathlib.Core.Path.{_≡_}
 use mathlib.Core.Bool.{Bool, true, false}
 use mathlib.Core.List.{List, [], _∷_, _++_}
 use mathlib.Core.Logic.{_⊎_}
-use Prim.Native.Nat.{ℕ, zero, suc, _+_, _≤_, _<_}
+use Prim.Native.Nat.{ℕ, zero, suc, _+_, _*_, _≤_, _<_}
 use lib.ListN.{length}
 use Rattle.std.specs.declared.option.Option.the-variants.{None}
 use Rattle.std.specs.shelf.Lists.{All, joined}
@@ -30,10 +30,14 @@ unfoldable pub read-on : ℕ → Bool → ℕ → List ℕ → Listing
 read-on zero first total rest = listing [] rest
 read-on (suc n) first total rest = read-more (read-on n false total) rest (next-of first total rest)
 
--- all that is read of a schedule after its first byte: no record is shorter than a byte
+-- what so many askings read of a schedule, after its first byte
+abbrev pub asked : ℕ → List ℕ → Listing
+asked n [] = listing [] []
+asked n (b ∷ rest) = read-on n true (length (b ∷ rest)) rest
+
+-- all that is read of a schedule: it has fewer records than bytes
 abbrev pub read-all : List ℕ → Listing
-read-all [] = listing [] []
-read-all (b ∷ rest) = read-on (length rest) true (length (b ∷ rest)) rest
+read-all bytes = asked (length bytes) bytes
 
 -- the written form of a schedule
 abbrev pub schedule : List Record → List ℕ
@@ -63,8 +67,8 @@ abbrev pub Bytes : List ℕ → Type 0
 Bytes = All (λ b. b < 256)
 
 -- what is written is bytes, which are opened and read back: exactly those records, each at its offset, and then the end
-abbrev pub Round-trip : Type 0
-Round-trip = (rs : List Record) → Lawful true rs → length (schedule rs) ≤ 60000 → Bytes (schedule rs) × (open-refusal (schedule rs) ≡ None) × (read-all (schedule rs) ≡ listing (entries-at 1 rs) [])
+abbrev pub Round-trip : ℕ → Type 0
+Round-trip limit = (rs : List Record) → Lawful true rs → length (schedule rs) ≤ limit → Bytes (schedule rs) × (open-refusal (schedule rs) ≡ None) × (read-all (schedule rs) ≡ listing (entries-at 1 rs) [])
 
 -- bytes that are opened are the first byte, the written form of the records handed out, and then nothing or a rest that
 -- begins no record: nothing is skipped, and nothing is invented
@@ -75,14 +79,19 @@ pub record Accounted (bytes : List ℕ) : Type 0 where
   pub bytes-are : bytes ≡ schedule records ++ read-all bytes .rest
   pub stops : (read-all bytes .rest ≡ []) ⊎ Begins-none (still true records) (read-all bytes .rest)
 
-abbrev pub Nothing-lost : Type 0
-Nothing-lost = (bytes : List ℕ) → Bytes bytes → open-refusal bytes ≡ None → Accounted bytes
+abbrev pub Nothing-lost : ℕ → Type 0
+Nothing-lost bound = (bytes : List ℕ) → All (λ b. b < bound) bytes → open-refusal bytes ≡ None → Accounted bytes
 
--- reading ends: where it stops the next asking hands out no record
+-- no record is handed out
 abbrev pub Stops : Reading → Type 0
 Stops (handed e left) = ⊥
 Stops ended = Unit {0}
 Stops malformed = Unit {0}
 
-abbrev pub Reading-ends : Type 0
-Reading-ends = (bytes : List ℕ) → open-refusal bytes ≡ None → Stops (next-of (still true (read-all bytes .entries)) (length bytes) (read-all bytes .rest))
+-- the asking after these hands out no record
+abbrev pub Stops-after : List ℕ → Listing → Type 0
+Stops-after bytes l = Stops (next-of (still true (l .entries)) (length bytes) (l .rest))
+
+-- reading ends: one asking for each so many bytes is enough
+abbrev pub Reading-ends : ℕ → Type 0
+Reading-ends each = (bytes : List ℕ) (n : ℕ) → open-refusal bytes ≡ None → length bytes ≤ each * n → Stops-after bytes (asked n bytes)

@@ -2,7 +2,7 @@
 use mathlib.Core.Path.{_≡_}
 use mathlib.Core.Bool.{true}
 use mathlib.Core.List.{List, [], map}
-use Prim.Native.Nat.{ℕ}
+use Prim.Native.Nat.{ℕ, _-_}
 use lib.ListN.{length}
 use Rattle.std.specs.declared.option.Option.{Option}
 use Rattle.std.specs.declared.option.Option.the-variants.{Some, None}
@@ -34,8 +34,14 @@ abbrev pub refusal-of : List ℕ → Option ℕ → Option ℕ
 refusal-of bytes None = stop-number (next-of (still true (read-all bytes .entries)) (length bytes) (read-all bytes .rest))
 refusal-of bytes (Some n) = Some n
 
+-- the offset at which reading stops
+abbrev pub stop-of : List ℕ → Option ℕ → ℕ
+stop-of bytes None = length bytes - length (read-all bytes .rest)
+stop-of bytes (Some n) = 0
+
 -- the contents of a schedule: its records and where they stop, and that the bytes are accounted for
 pub record Holds (bytes : List ℕ) (c : Contents) : Type 0 where
   pub parts : map seen (vec-items (c .parts)) ≡ entries-of bytes (open-refusal bytes)
   pub refused : mapped (λ (r : Refusal). refusal r .number) (c .refusal) ≡ refusal-of bytes (open-refusal bytes)
+  pub stop : c .stop ≡ stop-of bytes (open-refusal bytes)
   pub accounted : open-refusal bytes ≡ None → Accounted bytes

@@ -8,11 +8,12 @@ use basis::refusal::Refusal;
 use std::alloc::AllocError;
 use std::alloc::Global;
 
-// The records of a schedule in their order, and the refusal at which reading stopped; None where it came to the end.
+// The records of a schedule in their order, the refusal at which reading stopped, None where it came to the end, and the offset there.
 #[derive(Drop)]
 pub struct Contents<'a> {
     pub parts: Vec<Part<'a>>,
     pub refusal: Option<Refusal>,
+    pub stop: usize,
 }
 
 // Everything that the reader hands out of these bytes.
@@ -23,19 +24,30 @@ pub fn read_whole(heap: Global, bytes: &[u8]) -> Result<Contents<'_>, AllocError
     let mut reader = match Reader::open(bytes) {
         Ok(reader) => reader,
         Err(refusal) => {
-            let refusal = Some(refusal);
-            return Ok(Contents { parts, refusal });
+            return Ok(Contents {
+                parts,
+                refusal: Some(refusal),
+                stop: 0,
+            });
         }
     };
     loop {
+        let stop = reader.offset();
         match reader.next() {
             Outcome::Handed(part) => parts.push(part)?,
             Outcome::Ended => {
-                return Ok(Contents { parts, refusal: None });
+                return Ok(Contents {
+                    parts,
+                    refusal: None,
+                    stop,
+                });
             }
             Outcome::Refused(refusal) => {
-                let refusal = Some(refusal);
-                return Ok(Contents { parts, refusal });
+                return Ok(Contents {
+                    parts,
+                    refusal: Some(refusal),
+                    stop,
+                });
             }
         }
     }

@@ -2,6 +2,7 @@
 ghost use mathlib.Core.Path.{_≡_};
 ghost use mathlib.Core.Bool.{true};
 ghost use mathlib.Core.List.{_∷_};
+ghost use Prim.Native.Nat.{_-_};
 ghost use lib.ListN.{length};
 ghost use Rattle.std.specs.Options.{Cases as BySome};
 ghost use Rattle.std.specs.Results.{Cases};
@@ -9,10 +10,10 @@ ghost use Rattle.std.specs.declared.option.Option.the-variants.{Some, None};
 ghost use Rattle.basis.specs.Refusals.{refusal};
 ghost use Rattle.schedule.specs.Reading.{open-refusal, cut-of, content-at, Asked};
 use crate::record::Record;
+use crate::record::RecordDebug;
 use crate::record::decode;
 use basis::refusal::Refusal;
 use basis::refusal::RefusalDebug;
-use crate::record::RecordDebug;
 
 // One record as it is handed out: its bytes from the call byte on, a part of the schedule, the offset of that byte, and what the record says.
 #[derive(Clone, Copy, Debug)]
@@ -84,6 +85,13 @@ impl<'a> Reader<'a> {
             total,
             first: true,
         })
+    }
+
+    // The offset at which the next record begins.
+    pub fn offset(&self) -> usize
+        ensures { λ r. ⌜ r ≡ now (self .entry) .total - length (now (now (self .entry) .rest)) ⌝ }
+    {
+        self.total.saturating_sub(self.rest.len())
     }
 
     // The next record, the end, or the refusal of what stands there, which is then given again at each further asking.

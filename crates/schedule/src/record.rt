@@ -1,9 +1,12 @@
 // What a record of a schedule says.
 ghost use mathlib.Core.Path.{_≡_};
-ghost use Rattle.schedule.specs.Records.{is-setup, scheme-named, seat-call, setup-call, begin-call, decoded};
+ghost use mathlib.Core.List.{[]};
+ghost use Rattle.std.specs.declared.option.Option.the-variants.{Some};
+ghost use Rattle.schedule.specs.Records.{scheme, begin, described, is-setup, scheme-named, seat-call, setup-call, begin-call, decoded};
 use basis::kind::Kind;
 use basis::kind::KindDebug;
 use basis::kind::KindPartialEq;
+use std::fmt;
 
 // The schemes that a setup can name.
 #[derive(Clone, Copy, PartialEq, Eq, Debug)]
@@ -38,6 +41,30 @@ pub enum Record {
     Abandon {
         seat: u8,
     },
+}
+
+impl SchemeName {
+    // The scheme's name, for a person.
+    pub fn word(self) -> &'static str
+        ensures { λ r. ⌜ now r ≡ scheme self .word ⌝ }
+    {
+        match self {
+            SchemeName::Full => "full",
+            SchemeName::Owner => "owner",
+            SchemeName::Version => "version",
+        }
+    }
+}
+
+// What a begin of that kind is called.
+fn begin_word(kind: Kind) -> &'static str
+    ensures { λ r. ⌜ now r ≡ begin kind [] .word ⌝ }
+{
+    match kind {
+        Kind::Lookup => "begin lookup",
+        Kind::Insert => "begin insert",
+        Kind::Remove => "begin remove",
+    }
 }
 
 impl Record {
@@ -80,7 +107,11 @@ fn setup_record(call: u8, number: u8, cells: u16, window: u8) -> Option<Record>
         return None;
     }
     match scheme_of(number) {
-        Some(scheme) => Some(Record::Setup { scheme, cells, window }),
+        Some(scheme) => Some(Record::Setup {
+            scheme,
+            cells,
+            window,
+        }),
         None => None,
     }
 }
@@ -95,6 +126,31 @@ fn begin_record(call: u8, seat: u8, sector: u32) -> Option<Record>
         _ => return None,
     };
     Some(Record::Begin { kind, seat, sector })
+}
+
+pub impl fmt::Display for Record as RecordDisplay {
+    ghost shown = { λ r. Some (described r) };
+
+    fn fmt<W: fmt::Write>(&self, f: &mut fmt::Formatter<W>) -> fmt::Result {
+        match *self {
+            Record::Setup {
+                scheme,
+                cells,
+                window,
+            } => {
+                let scheme = scheme.word();
+                write!(f, "setup {scheme}, cells {cells}, window {window}")
+            }
+            Record::Join { seat } => write!(f, "join, seat {seat}"),
+            Record::Leave { seat } => write!(f, "leave, seat {seat}"),
+            Record::Begin { kind, seat, sector } => {
+                let word = begin_word(kind);
+                write!(f, "{word}, seat {seat}, sector {sector}")
+            }
+            Record::Step { seat } => write!(f, "step, seat {seat}"),
+            Record::Abandon { seat } => write!(f, "abandon, seat {seat}"),
+        }
+    }
 }
 
 // What a record says, from its call byte on; None where these bytes are no record.

@@ -1,6 +1,7 @@
 -- Each turn hands out one record more, and leaves fewer bytes.
 use mathlib.Core.Path.{_≡_, refl, sym, ap, subst, _∙_}
 use mathlib.Core.List.{[], _∷_, _++_, map}
+use native.Mathlib.Omega.{arith}
 use Rattle.std.proofs.shelf.Lists.{map-push}
 use Rattle.std.specs.declared.option.Option.the-variants.{Some}
 use Rattle.std.specs.Of.Vec.{vec-items}
@@ -19,7 +20,7 @@ loop-part-holds c =
 pub loop-part-less : need.loop-part-less
 loop-part-less c =
     let reader = c .loop-part .reader in
-    next-handed (reader .first) (reader .total) (reader .rest .now) _ _ (gave reader (c .in-Handed .part) (c .next .last .self) (c .in-Handed .ensures tt) .is) .cut .shorter
+    omega (arith, next-handed (reader .first) (reader .total) (reader .rest .now) _ _ (gave reader (c .in-Handed .part) (c .next .last .self) (c .in-Handed .ensures tt) .is) .shorter)
 
 pub loop-part-again : need.loop-part-again
 loop-part-again c =
@@ -30,9 +31,9 @@ loop-part-again c =
 pub returns-in-Ended : need.returns-in-Ended
 returns-in-Ended c =
     let is = gave-end (c .loop-part .reader) (c .next .last .self) (c .in-Ended .ensures tt) in
-    holds-all (c .args .bytes .now) _ (c .loop-part .reader) (c .in-Ok .ensures tt .0) (bytes-typed (c .args .bytes .now) (c .typed .bytes)) (c .loop-part .inv) (subst Stops (sym is) tt) (sym (ap stop-number is))
+    holds-all (c .args .bytes .now) _ (c .loop-part .reader) (c .in-Ok .ensures tt .0) (bytes-typed (c .args .bytes .now) (c .typed .bytes)) (c .loop-part .inv) (subst Stops (sym is) tt) (sym (ap stop-number is)) (c .offset-stop .ensures)
 
 pub returns-in-Refused : need.returns-in-Refused
 returns-in-Refused c =
     let is = gave-refusal (c .loop-part .reader) (c .in-Refused .refusal) (c .next .last .self) (c .in-Refused .ensures tt) in
-    holds-all (c .args .bytes .now) _ (c .loop-part .reader) (c .in-Ok .ensures tt .0) (bytes-typed (c .args .bytes .now) (c .typed .bytes)) (c .loop-part .inv) (subst Stops (sym (is .0)) tt) (ap Some (is .1) ∙ sym (ap stop-number (is .0)))
+    holds-all (c .args .bytes .now) _ (c .loop-part .reader) (c .in-Ok .ensures tt .0) (bytes-typed (c .args .bytes .now) (c .typed .bytes)) (c .loop-part .inv) (subst Stops (sym (is .0)) tt) (ap Some (is .1) ∙ sym (ap stop-number (is .0))) (c .offset-stop .ensures)
