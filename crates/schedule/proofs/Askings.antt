@@ -98,12 +98,12 @@ next-handed first total (b ∷ rest) e left h = go (cut-of (b ∷ rest)) refl h
         let tail : after ≡ left = cc in
         let told = content-some first bytes r said in
         subst (λ (x : Entry × List ℕ). Handed first total (b ∷ rest) (x .0) (x .1)) (λ i. (same i, tail i)) (record {
-        cut = cut-some (b ∷ rest) bytes after is;
-        decodes = told .0;
-        here = told .1;
-        offset = refl;
-        shorter = omega (arith, cut-some (b ∷ rest) bytes after is .shorter, two-at-least bytes r (told .0));
-      })
+          cut = cut-some (b ∷ rest) bytes after is;
+          decodes = told .0;
+          here = told .1;
+          offset = refl;
+          shorter = omega (arith, cut-some (b ∷ rest) bytes after is .shorter, two-at-least bytes r (told .0));
+        })
 
     go : (o : Option (List ℕ × List ℕ)) → cut-of (b ∷ rest) ≡ o → parted first total o ≡ handed e left → Handed first total (b ∷ rest) e left
     go None is h = let z : _≡_ {A = ℕ} 0 1 = cc in absurd (omega arith)

@@ -170,17 +170,17 @@ ends : (n : ℕ) (first : Bool) (total : ℕ) (rest : List ℕ) → length rest 
 unfolding read-on
 ends zero first total rest h =
     elim (next-of first total rest) as (λ a. next-of first total rest ≡ a → Stops a) [
-      handed x left ↦ λ is. omega (arith, next-handed first total rest x left is .shorter)
-    | ended ↦ λ is. tt
-    | malformed ↦ λ is. tt
+      | handed x left ↦ λ is. omega (arith, next-handed first total rest x left is .shorter)
+      | ended ↦ λ is. tt
+      | malformed ↦ λ is. tt
     ] refl
 ends (suc n) first total rest h =
     elim (next-of first total rest) as (λ a. next-of first total rest ≡ a → Stops (next-of (still first (read-more (read-on n false total) rest a .entries)) total (read-more (read-on n false total) rest a .rest))) [
-      handed x left ↦ λ is.
+      | handed x left ↦ λ is.
           let out = next-handed first total rest x left is in
           subst (λ f. Stops (next-of f total (read-on n false total left .rest))) (still-false (read-on n false total left .entries)) (ends n false total left (omega (arith, out .shorter)))
-    | ended ↦ λ is. subst Stops (sym is) tt
-    | malformed ↦ λ is. subst Stops (sym is) tt
+      | ended ↦ λ is. subst Stops (sym is) tt
+      | malformed ↦ λ is. subst Stops (sym is) tt
     ] refl
 
 pub reading-ends : (each : ℕ) → each ≤ 4 → Reading-ends each

@@ -1,13 +1,15 @@
 // The reader of a schedule, over bytes that it borrows.
 ghost use mathlib.Core.Path.{_≡_};
-ghost use mathlib.Core.Bool.{true};
+ghost use mathlib.Core.Bool.{true, false};
 ghost use mathlib.Core.List.{_∷_};
 ghost use Prim.Native.Nat.{_-_};
+ghost use lib.Dec.{ltb};
 ghost use lib.ListN.{length};
 ghost use Rattle.std.specs.Options.{Cases as BySome};
 ghost use Rattle.std.specs.Results.{Cases};
 ghost use Rattle.std.specs.declared.option.Option.the-variants.{Some, None};
 ghost use Rattle.basis.specs.Refusals.{refusal};
+ghost use Rattle.schedule.specs.Records.{from-two};
 ghost use Rattle.schedule.specs.Reading.{open-refusal, cut-of, content-at, Asked};
 use crate::record::Record;
 use crate::record::RecordDebug;
@@ -39,6 +41,20 @@ pub struct Reader<'a> {
     first: bool,
 }
 
+// More bytes than a schedule may have.
+fn too_long(total: usize) -> bool
+    ensures { λ r. ⌜ r ≡ ltb 60000 total ⌝ }
+{
+    total > 60000
+}
+
+// The length that stands in front of a record, in two bytes.
+fn length_of(high: u8, low: u8) -> usize
+    ensures { λ r. ⌜ r ≡ from-two high low ⌝ }
+{
+    usize::from(u16::from_be_bytes([high, low]))
+}
+
 // The bytes of the record whose length stands in front, and what is left after them; None where the record is cut short.
 fn cut(rest: &[u8]) -> Option<(&[u8], &[u8])>
     ensures { λ r. ⌜ BySome r (cut-of (now (rest .entry)) ≡ None) (λ p. cut-of (now (rest .entry)) ≡ Some (now (p .0), now (p .1))) ⌝ }
@@ -46,7 +62,7 @@ fn cut(rest: &[u8]) -> Option<(&[u8], &[u8])>
     let [high, low, bytes @ ..] = rest else {
         return None;
     };
-    let len = usize::from(u16::from_be_bytes([*high, *low]));
+    let len = length_of(*high, *low);
     if bytes.len() < len {
         return None;
     }
@@ -71,7 +87,7 @@ impl<'a> Reader<'a> {
         ensures { λ r. ⌜ Cases r (λ reader. (open-refusal (now (bytes .entry)) ≡ None) × (now (bytes .entry) ≡ 1 ∷ now (reader .rest)) × (reader .total ≡ length (now (bytes .entry))) × (reader .first ≡ true)) (λ e. open-refusal (now (bytes .entry)) ≡ Some (refusal e .number)) ⌝ }
     {
         let total = bytes.len();
-        if total > 60000 {
+        if too_long(total) {
             return Err(Refusal::ScheduleTooLong);
         }
         let [version, rest @ ..] = bytes else {
@@ -85,6 +101,26 @@ impl<'a> Reader<'a> {
             total,
             first: true,
         })
+    }
+
+    // The offset of what is followed by so many bytes.
+    fn offset_before(self, more: usize) -> usize
+        ensures { λ r. ⌜ r ≡ self .entry .total - more ⌝ }
+    {
+        self.total.saturating_sub(more)
+    }
+
+    // The reader once a record was handed out, with these bytes left.
+    fn moved(self, left: &'a [u8]) -> Reader<'a>
+        ensures rest { λ r. ⌜ now (r .rest) ≡ now (left .entry) ⌝ }
+        ensures total { λ r. ⌜ r .total ≡ self .entry .total ⌝ }
+        ensures first { λ r. ⌜ r .first ≡ false ⌝ }
+    {
+        Reader {
+            rest: left,
+            total: self.total,
+            first: false,
+        }
     }
 
     // The offset at which the next record begins.
@@ -107,13 +143,8 @@ impl<'a> Reader<'a> {
         let Some(content) = content_at(self.first, bytes) else {
             return Outcome::Refused(Refusal::BadRecord);
         };
-        let total = self.total;
-        let offset = total.saturating_sub(left.len()).saturating_sub(bytes.len());
-        *self = Reader {
-            rest: left,
-            total,
-            first: false,
-        };
+        let offset = self.offset_before(left.len()).saturating_sub(bytes.len());
+        *self = self.moved(left);
         Outcome::Handed(Part {
             bytes,
             offset,

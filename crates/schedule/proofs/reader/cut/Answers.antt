@@ -8,4 +8,4 @@ use Rattle.schedule.proofs.reader.cut.Needs as need
 pub returns : need.returns
 returns c =
     let parts = c .split-at .ensures in
-    cut-at (c .args .rest .now) (c .from-len .result) (search needs) (omega arith) (c .if-bytes-len .left) ∙ (λ i. Some (sym (parts .front) i, sym (parts .back) i))
+    cut-at (c .args .rest .now) (c .length-of-len .result) (search needs) (omega arith) (c .if-bytes-len .left) ∙ (λ i. Some (sym (parts .front) i, sym (parts .back) i))

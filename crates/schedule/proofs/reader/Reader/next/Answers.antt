@@ -17,10 +17,11 @@ returns c =
     let left = c .in-Some .left .now in
     let is = hands (reader .first) (reader .total) (reader .rest .now) bytes left _ (c .in-Some .ensures tt) (sym (c .in-Some-content-at .ensures tt)) in
     let offset : c .saturating-sub-offset .result ≡ reader .total - length left - length bytes = omega arith in
+    let moved = c .moved .ensures in
     record {
       value = ap (λ n. told 0 (codes "record") (n ∷ bytes)) offset ∙ sym (ap due is);
       content = sym (ap content-due is);
-      rest = sym (ap (λ a. left-after a (reader .rest .now)) is);
-      total = refl;
-      first = sym (ap (λ a. first-after a (reader .first)) is);
+      rest = moved .rest ∙ sym (ap (λ a. left-after a (reader .rest .now)) is);
+      total = moved .total;
+      first = moved .first ∙ sym (ap (λ a. first-after a (reader .first)) is);
     }

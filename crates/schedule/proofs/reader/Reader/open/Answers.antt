@@ -1,8 +1,8 @@
 use mathlib.Core.Path.{refl}
-use native.Mathlib.Omega.{arith}
 use borrow.Author.Needs.{needs}
+use borrow.Author.Tests.{false-ltb}
 use Rattle.schedule.proofs.Cuts.{opened}
 use Rattle.schedule.proofs.reader.Reader.open.Needs as need
 
 pub returns : need.returns
-returns c = let p = opened (c .args .bytes .now) (search needs) (search needs) (omega arith) in (p .0, p .1, refl, refl)
+returns c = let p = opened (c .args .bytes .now) (search needs) (search needs) (false-ltb 60000 _ (c .if-too-long .ensures tt)) in (p .0, p .1, refl, refl)
