@@ -1,0 +1,1 @@
+// What a scheme of marks is.
