@@ -1,0 +1,3 @@
+pub mod Cleared
+pub mod Slots
+pub mod FullLaws

@@ -1,1 +1,4 @@
 pub mod Meaning
+pub mod Marks
+pub mod Spread
+pub mod Full

@@ -18,6 +18,12 @@ pub data Order : Type 0 where
   reserve : ℕ → ℕ → Order
   revoke : ℕ → Order
 
+-- the seat that an order speaks of is one of the sixteen
+abbrev pub Seated : Order → Type 0
+Seated (release t) = t < 16
+Seated (reserve t p) = t < 16
+Seated (revoke p) = Unit {0}
+
 -- a mark that an order does not speak of stays as it was; a relaxed scheme may drop it instead
 abbrev pub Kept : Bool → Option ℕ → Option ℕ → Type 0
 Kept strict before after = (after ≡ before) ⊎ ((strict ≡ false) × (after ≡ None))

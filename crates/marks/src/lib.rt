@@ -1,1 +1,4 @@
-// What a scheme of marks is.
+// What a scheme of marks is, and the schemes.
+pub mod full;
+pub mod scheme;
+pub mod spread;

@@ -1,0 +1,46 @@
+-- What the full scheme does to its marks is what the orders mean, and it is strict. Assumes nothing.
+use mathlib.Core.Path.{_≡_, refl, sym, ap, _∙_, subst}
+use mathlib.Core.Bool.{Bool, true, false, cond}
+use mathlib.Core.List.{List, map}
+use mathlib.Core.Logic.{_⊎_, inl, inr, _≢_}
+use Prim.Native.Nat.{ℕ, _<_}
+use native.Mathlib.Omega.{arith}
+use lib.Dec.{eqb}
+use lib.ListN.{length, getD, set}
+use Rattle.std.specs.declared.option.Option.{Option}
+use Rattle.std.specs.declared.option.Option.the-variants.{Some, None}
+use Rattle.std.proofs.shelf.Lists.{getD-set-same, getD-set-other, getD-map, length-map}
+use Rattle.std.proofs.shelf.Tests.{eq-eqb, ne-eqb, cond-true, cond-false}
+use Rattle.marks.specs.declared.full.Full.{Full}
+use Rattle.marks.specs.Meaning.{Order, Means, Seated}
+use Rattle.marks.specs.Meaning.Order.{release, reserve, revoke}
+use Rattle.marks.specs.Marks.{numbered, stands-on, cleared}
+use Rattle.marks.specs.Full.{full-state, full-act, full-get}
+
+on-other : (p : ℕ) (m : Option ℕ) → m ≢ Some p → stands-on p m ≡ false
+on-other p None ne = refl
+on-other p (Some q) ne = ne-eqb q p (λ e. ne (ap Some e))
+
+cleared-at : (p : ℕ) (ms : List (Option ℕ)) (u : ℕ) → u < length ms → full-get (cleared (stands-on p) ms) u ≡ cond (stands-on p (full-get ms u)) None (full-get ms u)
+cleared-at p ms u h = getD-map (λ m. cond (stands-on p m) None m) ms u None None h
+
+module _ (ms : List (Option ℕ)) (sixteen : length ms ≡ 16) where
+  meant : (o : Order) → Seated o → Means true o (full-get ms) (full-get (full-act o ms))
+  meant (release t) h = record {
+    own = getD-set-same ms t None None (omega arith);
+    others = λ u l ne. getD-set-other ms t u None None ne;
+  }
+  meant (reserve t p) h = record {
+    own = getD-set-same ms t (Some p) None (omega arith);
+    others = λ u l ne. inl (getD-set-other ms t u (Some p) None ne);
+  }
+  meant (revoke p) h = record {
+    struck = λ u l e. cleared-at p ms u (omega arith) ∙ ap (λ m. cond (stands-on p m) None m) e ∙ cond-true (eqb p p) None (Some p) (eq-eqb p p refl);
+    others = λ u l ne. inl (cleared-at p ms u (omega arith) ∙ cond-false (stands-on p (full-get ms u)) None (full-get ms u) (on-other p (full-get ms u) ne));
+  }
+
+-- of a scheme with sixteen marks: where the state is what the order makes of it, the order is carried out as it means
+pub full-means : (s after : Full) → length (s .marks) ≡ 16 → (o : Order) → Seated o → full-state after ≡ full-act o (full-state s) → Means true o (full-get (full-state s)) (full-get (full-state after))
+full-means s after sixteen o h e =
+    subst (λ ms. Means true o (full-get (full-state s)) (full-get ms)) (sym e)
+    (meant (full-state s) (length-map (s .marks) numbered ∙ sixteen) o h)
