@@ -1,3 +1,4 @@
 pub mod Cleared
 pub mod Slots
 pub mod FullLaws
+pub mod OwnerLaws

@@ -7,7 +7,7 @@ use Rattle.std.specs.declared.option.Option.the-variants.{Some, None}
 use Rattle.marks.specs.declared.full.Full.{Full}
 use Rattle.marks.specs.Meaning.{Order, Table}
 use Rattle.marks.specs.Meaning.Order.{release, reserve, revoke}
-use Rattle.marks.specs.Marks.{numbered, stands-on, cleared}
+use Rattle.marks.specs.Marks.{numbered, names, cleared}
 
 -- for each seat the number of the place that it has marked, or none
 abbrev pub full-state : Full → List (Option ℕ)
@@ -21,7 +21,7 @@ full-new = replicate 16 None
 abbrev pub full-act : Order → List (Option ℕ) → List (Option ℕ)
 full-act (release t) ms = set ms t None
 full-act (reserve t p) ms = set ms t (Some p)
-full-act (revoke p) ms = cleared (stands-on p) ms
+full-act (revoke p) ms = cleared (names p) ms
 
 -- the mark of a seat
 abbrev pub full-get : List (Option ℕ) → Table

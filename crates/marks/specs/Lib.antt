@@ -2,3 +2,4 @@ pub mod Meaning
 pub mod Marks
 pub mod Spread
 pub mod Full
+pub mod Owner

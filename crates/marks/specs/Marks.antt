@@ -8,6 +8,7 @@ use Rattle.std.specs.Options.{mapped}
 use Rattle.std.specs.declared.option.Option.{Option}
 use Rattle.std.specs.declared.option.Option.the-variants.{Some, None}
 use Rattle.basis.specs.declared.place.Place.{Place}
+use Rattle.basis.specs.declared.seat.Seat.{Seat}
 use Rattle.marks.specs.Meaning.{Table}
 
 -- a mark, by the number of its place
@@ -18,10 +19,14 @@ numbered m = mapped (λ (p : Place). p .number) m
 abbrev pub Unmarked : Table → Type 0
 Unmarked table = (u : ℕ) → u < 16 → table u ≡ None
 
--- whether a mark stands on place p
-abbrev pub stands-on : ℕ → Option ℕ → Bool
-stands-on p None = false
-stands-on p (Some q) = eqb q p
+-- an owner, by the number of its seat
+abbrev pub seat-number : Option Seat → Option ℕ
+seat-number o = mapped (λ (t : Seat). t .number) o
+
+-- whether an entry names that number: a mark that place, an owner that seat
+abbrev pub names : ℕ → Option ℕ → Bool
+names n None = false
+names n (Some m) = eqb m n
 
 -- the marks, those that pass the test cleared
 abbrev pub cleared : {X : Type 0} → (Option X → Bool) → List (Option X) → List (Option X)

@@ -3,7 +3,7 @@ ghost use mathlib.Core.Path.{_≡_};
 ghost use mathlib.Core.Bool.{true};
 ghost use Rattle.marks.specs.Meaning.{Means};
 ghost use Rattle.marks.specs.Meaning.Order.{release, reserve, revoke};
-ghost use Rattle.marks.specs.Marks.{numbered, Unmarked, stands-on, cleared};
+ghost use Rattle.marks.specs.Marks.{numbered, Unmarked, names, cleared};
 ghost use Rattle.marks.specs.Full.{full-state, full-new, full-act, full-get};
 use crate::scheme::Scheme;
 use crate::scheme::Strict;
@@ -28,7 +28,7 @@ impl Full {
 
 // Whether the mark stands on place p.
 fn stands_on(mark: Option<Place>, p: Place) -> bool
-    ensures { λ r. ⌜ r ≡ stands-on (p .number) (numbered mark) ⌝ }
+    ensures { λ r. ⌜ r ≡ names (p .number) (numbered mark) ⌝ }
 {
     match mark {
         Some(q) => q.number() == p.number(),
@@ -38,7 +38,7 @@ fn stands_on(mark: Option<Place>, p: Place) -> bool
 
 // Clears each mark that stands on place p.
 fn strike(marks: &mut [Option<Place>], p: Place)
-    ensures { λ _. ⌜ now (marks .exit) ≡ cleared (λ m. stands-on (p .number) (numbered m)) (now (marks .entry)) ⌝ }
+    ensures { λ _. ⌜ now (marks .exit) ≡ cleared (λ m. names (p .number) (numbered m)) (now (marks .entry)) ⌝ }
 {
     for mark in marks.iter_mut() {
         if stands_on(*mark, p) {

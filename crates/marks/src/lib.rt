@@ -1,4 +1,5 @@
 // What a scheme of marks is, and the schemes.
 pub mod full;
+pub mod owner;
 pub mod scheme;
 pub mod spread;
