@@ -2,7 +2,9 @@
 use mathlib.Core.Path.{_≡_, refl, sym, ap, _∙_}
 use mathlib.Core.Bool.{Bool, true, false, cond}
 use mathlib.Core.List.{List, [], _∷_, _++_, map}
-use Prim.Native.Nat.{ℕ, _+_, _<_, _≤_}
+use mathlib.Core.Logic.{_⊎_, inl, inr}
+use Prim.Native.Nat.{ℕ, zero, suc, _+_, _<_, _≤_}
+use native.Mathlib.Omega.{arith}
 use lib.ListN.{length, getD, set, take, drop}
 use Rattle.std.specs.Options.{mapped}
 use Rattle.std.specs.declared.option.Option.{Option}
@@ -38,3 +40,28 @@ getD-mapped f ms d i j h e = sym (getD-map (mapped f) ms i d None h) ∙ ap (λ 
 -- an entry, written under another name
 pub set-mapped : {X Y : Type 0} (f : X → Y) (ms : List (Option X)) (m : Option X) (i j : ℕ) → i ≡ j → map (mapped f) (set ms i m) ≡ set (map (mapped f) ms) j (mapped f m)
 set-mapped f ms m i j e = map-set (mapped f) ms i m ∙ ap (λ k. set (map (mapped f) ms) k (mapped f m)) e
+
+-- an entry of marks of which some were cleared
+pub cleared-at : {X : Type 0} (test : Option X → Bool) (ms : List (Option X)) (u : ℕ) → u < length ms → getD (cleared test ms) u None ≡ cond (test (getD ms u None)) None (getD ms u None)
+cleared-at test ms u h = getD-map (λ m. cond (test m) None m) ms u None None h
+
+-- a mark that is there after some were cleared was there before, and does not pass the test
+pub cleared-cases : {X : Type 0} (test : Option X → Bool) (ms : List (Option X)) (u : ℕ) (x : X) → getD (cleared test ms) u None ≡ Some x → (getD ms u None ≡ Some x) × (test (Some x) ≡ false)
+cleared-cases test [] u x e = cc-absurd e
+  where
+    cc-absurd : {X : Type 0} {x : X} {P : Type 0} → None ≡ Some x → P
+    cc-absurd e = let z : _≡_ {A = ℕ} 0 1 = cc in absurd (omega arith)
+cleared-cases test (m ∷ ms) zero x e = left (test m) refl e
+  where
+    left : (b : Bool) → test m ≡ b → cond b None m ≡ Some x → (m ≡ Some x) × (test (Some x) ≡ false)
+    left true t e = let z : _≡_ {A = ℕ} 0 1 = cc in absurd (omega arith)
+    left false t e = (e, ap test (sym e) ∙ t)
+cleared-cases test (m ∷ ms) (suc u) x e = cleared-cases test ms u x e
+
+-- a mark that is there after one entry was written is that one, or was there before
+pub set-cases : {X : Type 0} (ms : List (Option X)) (t : ℕ) (w : Option X) (u : ℕ) (x : X) → getD (set ms t w) u None ≡ Some x → (w ≡ Some x) ⊎ (getD ms u None ≡ Some x)
+set-cases [] t w u x e = inr e
+set-cases (m ∷ ms) zero w zero x e = inl e
+set-cases (m ∷ ms) zero w (suc u) x e = inr e
+set-cases (m ∷ ms) (suc t) w zero x e = inr e
+set-cases (m ∷ ms) (suc t) w (suc u) x e = set-cases ms t w u x e

@@ -9,20 +9,18 @@ use lib.Dec.{eqb}
 use lib.ListN.{length, getD, set}
 use Rattle.std.specs.declared.option.Option.{Option}
 use Rattle.std.specs.declared.option.Option.the-variants.{Some, None}
-use Rattle.std.proofs.shelf.Lists.{getD-set-same, getD-set-other, getD-map, length-map}
+use Rattle.std.proofs.shelf.Lists.{getD-set-same, getD-set-other, length-map}
 use Rattle.std.proofs.shelf.Tests.{eq-eqb, ne-eqb, cond-true, cond-false}
 use Rattle.marks.specs.declared.full.Full.{Full}
 use Rattle.marks.specs.Meaning.{Order, Means, Seated}
 use Rattle.marks.specs.Meaning.Order.{release, reserve, revoke}
-use Rattle.marks.specs.Marks.{numbered, names, cleared}
+use Rattle.marks.specs.Marks.{numbered, names}
+use Rattle.marks.proofs.Cleared.{cleared-at}
 use Rattle.marks.specs.Full.{full-state, full-act, full-get}
 
 on-other : (p : ℕ) (m : Option ℕ) → m ≢ Some p → names p m ≡ false
 on-other p None ne = refl
 on-other p (Some q) ne = ne-eqb q p (λ e. ne (ap Some e))
-
-cleared-at : (p : ℕ) (ms : List (Option ℕ)) (u : ℕ) → u < length ms → full-get (cleared (names p) ms) u ≡ cond (names p (full-get ms u)) None (full-get ms u)
-cleared-at p ms u h = getD-map (λ m. cond (names p m) None m) ms u None None h
 
 module _ (ms : List (Option ℕ)) (sixteen : length ms ≡ 16) where
   meant : (o : Order) → Seated o → Means true o (full-get ms) (full-get (full-act o ms))
@@ -35,8 +33,8 @@ module _ (ms : List (Option ℕ)) (sixteen : length ms ≡ 16) where
     others = λ u l ne. inl (getD-set-other ms t u (Some p) None ne);
   }
   meant (revoke p) h = record {
-    struck = λ u l e. cleared-at p ms u (omega arith) ∙ ap (λ m. cond (names p m) None m) e ∙ cond-true (eqb p p) None (Some p) (eq-eqb p p refl);
-    others = λ u l ne. inl (cleared-at p ms u (omega arith) ∙ cond-false (names p (full-get ms u)) None (full-get ms u) (on-other p (full-get ms u) ne));
+    struck = λ u l e. cleared-at (names p) ms u (omega arith) ∙ ap (λ m. cond (names p m) None m) e ∙ cond-true (eqb p p) None (Some p) (eq-eqb p p refl);
+    others = λ u l ne. inl (cleared-at (names p) ms u (omega arith) ∙ cond-false (names p (full-get ms u)) None (full-get ms u) (on-other p (full-get ms u) ne));
   }
 
 -- of a scheme with sixteen marks: where the state is what the order makes of it, the order is carried out as it means

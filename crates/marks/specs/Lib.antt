@@ -3,3 +3,4 @@ pub mod Marks
 pub mod Spread
 pub mod Full
 pub mod Owner
+pub mod Version

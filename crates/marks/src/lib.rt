@@ -3,3 +3,4 @@ pub mod full;
 pub mod owner;
 pub mod scheme;
 pub mod spread;
+pub mod version;
