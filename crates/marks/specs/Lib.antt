@@ -4,3 +4,4 @@ pub mod Spread
 pub mod Full
 pub mod Owner
 pub mod Version
+pub mod Pair
