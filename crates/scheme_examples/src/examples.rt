@@ -1,0 +1,63 @@
+// The worked examples: as one theorem over the definitions, and on the code that runs.
+ghost use mathlib.Core.Path.{_≡_};
+ghost use mathlib.Core.Bool.{true};
+ghost use Rattle.std.specs.declared.option.Option.the-variants.{None};
+ghost use Rattle.std.specs.declared.result.Result.the-variants.{Ok};
+ghost use Rattle.scheme_examples.specs.Examples.{Examples};
+use basis::place::Place;
+use basis::refusal::Refusal;
+use basis::seat::Seat;
+use keys::key::Key;
+use keys::wear::Wear;
+use keys::wear::WearKey;
+use marks::owner::Owner;
+use marks::owner::OwnerScheme;
+use marks::scheme::Scheme;
+use marks::spread::slot_of;
+use marks::version::Version;
+use marks::version::VersionScheme;
+
+// All examples, over the definitions that the contracts of the code cite.
+pub fn examples_hold() -> u8
+    ensures { λ _. ⌜ Examples ⌝ }
+{
+    0
+}
+
+// Owner: seat 0 reserves 0, seat 1 reserves 16, then seat 0's mark is none.
+pub fn owner_loses_its_slot() -> Result<Option<Place>, Refusal>
+    ensures { λ r. ⌜ r ≡ Ok None ⌝ }
+{
+    let seat = Seat::new(0)?;
+    let mut scheme = Owner::new();
+    scheme.reserve(seat, Place::new(0)?);
+    scheme.reserve(Seat::new(1)?, Place::new(16)?);
+    Ok(scheme.get(seat))
+}
+
+// Version with counters at 4,294,967,295: seat 0 reserves 1; after revoke 17 its mark is none.
+pub fn version_starts_again() -> Result<Option<Place>, Refusal>
+    ensures { λ r. ⌜ r ≡ Ok None ⌝ }
+{
+    let seat = Seat::new(0)?;
+    let mut scheme = Version::new(4_294_967_295);
+    scheme.reserve(seat, Place::new(1)?);
+    scheme.revoke(Place::new(17)?);
+    Ok(scheme.get(seat))
+}
+
+// Places 3 and 19 go to slot 5.
+pub fn slots_of_3_and_19() -> Result<(usize, usize), Refusal>
+    ensures { λ r. ⌜ r ≡ Ok (5, 5) ⌝ }
+{
+    Ok((slot_of(Place::new(3)?), slot_of(Place::new(19)?)))
+}
+
+// Wear (2,874, 65,535) is below (2,875, 0).
+pub fn counts_decide_first() -> Result<bool, Refusal>
+    ensures { λ r. ⌜ r ≡ Ok true ⌝ }
+{
+    let less = Wear::new(2874, 65535)?;
+    let more = Wear::new(2875, 0)?;
+    Ok(less.is_below(more))
+}
