@@ -9,7 +9,7 @@ use lib.ListN.{length, getD, set, take, drop}
 use Rattle.std.specs.Options.{mapped}
 use Rattle.std.specs.declared.option.Option.{Option}
 use Rattle.std.specs.declared.option.Option.the-variants.{Some, None}
-use Rattle.std.proofs.shelf.Lists.{take-all, drop-all, append-nil, getD-map, map-set}
+use Rattle.std.proofs.shelf.Lists.{take-all, drop-all, append-nil, getD-default, getD-map, map-set}
 use Rattle.std.proofs.shelf.Edits.{map-over-more}
 use Rattle.marks.specs.Marks.{cleared}
 
@@ -34,12 +34,18 @@ cleared-all test xs ys i done so-far =
     so-far ∙ ap (λ zs. cleared test zs ++ drop i xs) (take-all i xs done) ∙ ap (λ zs. cleared test xs ++ zs) (drop-all i xs done) ∙ append-nil (cleared test xs)
 
 -- an entry, read under another name
-pub getD-mapped : {X Y : Type 0} (f : X → Y) (ms : List (Option X)) (d : Option X) (i j : ℕ) → i < length ms → i ≡ j → mapped f (getD ms i d) ≡ getD (map (mapped f) ms) j None
-getD-mapped f ms d i j h e = sym (getD-map (mapped f) ms i d None h) ∙ ap (λ k. getD (map (mapped f) ms) k None) e
+pub getD-mapped : {X Y : Type 0} (f : X → Y) (ms : List (Option X)) (i : ℕ) → mapped f (getD ms i None) ≡ getD (map (mapped f) ms) i None
+getD-mapped f [] i = refl
+getD-mapped f (m ∷ ms) zero = refl
+getD-mapped f (m ∷ ms) (suc i) = getD-mapped f ms i
+
+-- the same, read at another default
+pub read-mapped : {X Y : Type 0} (f : X → Y) (ms : List (Option X)) (d : Option X) (i j : ℕ) → i < length ms → i ≡ j → mapped f (getD ms i d) ≡ getD (map (mapped f) ms) j None
+read-mapped f ms d i j h e = ap (mapped f) (getD-default ms i d None h) ∙ getD-mapped f ms i ∙ ap (λ k. getD (map (mapped f) ms) k None) e
 
 -- an entry, written under another name
-pub set-mapped : {X Y : Type 0} (f : X → Y) (ms : List (Option X)) (m : Option X) (i j : ℕ) → i ≡ j → map (mapped f) (set ms i m) ≡ set (map (mapped f) ms) j (mapped f m)
-set-mapped f ms m i j e = map-set (mapped f) ms i m ∙ ap (λ k. set (map (mapped f) ms) k (mapped f m)) e
+pub set-mapped : {X Y : Type 0} (f : X → Y) (ms after : List (Option X)) (i : ℕ) (m : Option X) → after ≡ set ms i m → map (mapped f) after ≡ set (map (mapped f) ms) i (mapped f m)
+set-mapped f ms after i m e = ap (map (mapped f)) e ∙ map-set (mapped f) ms i m
 
 -- an entry of marks of which some were cleared
 pub cleared-at : {X : Type 0} (test : Option X → Bool) (ms : List (Option X)) (u : ℕ) → u < length ms → getD (cleared test ms) u None ≡ cond (test (getD ms u None)) None (getD ms u None)

@@ -11,11 +11,12 @@ use Rattle.std.specs.declared.option.Option.{Option}
 use Rattle.std.specs.declared.option.Option.the-variants.{Some, None}
 use Rattle.std.proofs.shelf.Lists.{getD-set-same, getD-set-other, length-map}
 use Rattle.std.proofs.shelf.Tests.{eq-eqb, ne-eqb, cond-true, cond-false}
+use Rattle.basis.specs.declared.place.Place.{Place}
 use Rattle.marks.specs.declared.full.Full.{Full}
 use Rattle.marks.specs.Meaning.{Order, Means, Seated}
 use Rattle.marks.specs.Meaning.Order.{release, reserve, revoke}
-use Rattle.marks.specs.Marks.{numbered, names}
-use Rattle.marks.proofs.Cleared.{cleared-at}
+use Rattle.marks.specs.Marks.{numbered, names, cleared}
+use Rattle.marks.proofs.Cleared.{cleared-at, map-cleared}
 use Rattle.marks.specs.Full.{full-state, full-act, full-get}
 
 on-other : (p : ℕ) (m : Option ℕ) → m ≢ Some p → names p m ≡ false
@@ -42,3 +43,6 @@ pub full-means : (s after : Full) → length (s .marks) ≡ 16 → (o : Order) �
 full-means s after sixteen o h e =
     subst (λ ms. Means true o (full-get (full-state s)) (full-get ms)) (sym e)
     (meant (full-state s) (length-map (s .marks) numbered ∙ sixteen) o h)
+
+pub strike-acted : (s after : Full) (p : ℕ) → after .marks ≡ cleared (λ m. names p (numbered m)) (s .marks) → full-state after ≡ full-act (revoke p) (full-state s)
+strike-acted s after p e = ap (map numbered) e ∙ map-cleared (λ (q : Place). q .number) (names p) (s .marks)

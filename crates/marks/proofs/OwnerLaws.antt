@@ -1,7 +1,7 @@
 -- What the owner scheme does to its state is what the orders mean. Assumes nothing.
 use mathlib.Core.Path.{_≡_, refl, sym, ap, _∙_, subst}
 use mathlib.Core.Bool.{Bool, true, false, cond}
-use mathlib.Core.List.{List, map}
+use mathlib.Core.List.{List}
 use mathlib.Core.Logic.{_⊎_, inl, inr, ⊎-elim, _≢_}
 use Prim.Native.Nat.{ℕ, _<_}
 use native.Mathlib.Omega.{arith}
@@ -11,15 +11,12 @@ use Rattle.std.specs.declared.option.Option.{Option}
 use Rattle.std.specs.declared.option.Option.the-variants.{Some, None}
 use Rattle.std.proofs.shelf.Lists.{getD-set-same, getD-set-other, length-map}
 use Rattle.std.proofs.shelf.Tests.{eq-eqb, ne-eqb, cases-eq}
-use Rattle.basis.specs.declared.place.Place.{Place}
-use Rattle.basis.specs.declared.seat.Seat.{Seat}
 use Rattle.marks.specs.declared.owner.Owner.{Owner}
 use Rattle.marks.specs.Meaning.{Order, Means, Seated, Kept}
 use Rattle.marks.specs.Meaning.Order.{release, reserve, revoke}
 use Rattle.marks.specs.Marks.{numbered, seat-number, names}
 use Rattle.marks.specs.Spread.{slot}
-use Rattle.marks.specs.Owner.{Owned, owned, owner-state, owner-act, owner-get, if-owned}
-use Rattle.marks.proofs.Cleared.{getD-mapped}
+use Rattle.marks.specs.Owner.{Owned, Sixteens, owner-state, owner-act, owner-get, if-owned}
 use Rattle.marks.proofs.Slots.{slot-below}
 
 -- what is answered is the mark
@@ -63,20 +60,8 @@ module _ (s : Owned) (marks16 : length (s .marks) ≡ 16) (owners16 : length (s 
     others = λ u l ne. shifted (slot p) (slot-below p) None u refl (getD (s .marks) u None);
   }
 
--- of a scheme with sixteen marks and owners: where the state is what the order makes of it, the order is carried out as it means
-pub owner-means : (s after : Owner) → length (s .marks) ≡ 16 → length (s .owners) ≡ 16 → (o : Order) → Seated o → owner-state after ≡ owner-act o (owner-state s) → Means false o (owner-get (owner-state s)) (owner-get (owner-state after))
-owner-means s after marks16 owners16 o h e =
+-- where the state is what the order makes of it, the order is carried out as it means
+pub owner-means : (s after : Owner) → Sixteens s → (o : Order) → Seated o → owner-state after ≡ owner-act o (owner-state s) → Means false o (owner-get (owner-state s)) (owner-get (owner-state after))
+owner-means s after sixteen o h e =
     subst (λ x. Means false o (owner-get (owner-state s)) (owner-get x)) (sym e)
-    (meant (owner-state s) (length-map (s .marks) numbered ∙ marks16) (length-map (s .owners) seat-number ∙ owners16) o h)
-
--- what get finds: its mark on place p, and b whether it owns the slot j of p
-pub get-some : (s : Owner) (t p i j : ℕ) (d : Option Place) (e : Option Seat) (b : Bool) → i < length (s .marks) → i ≡ t → numbered (getD (s .marks) i d) ≡ Some p → j < length (s .owners) → j ≡ slot p → b ≡ names t (seat-number (getD (s .owners) j e)) → cond b (Some p) None ≡ owner-get (owner-state s) t
-get-some s t p i j d e b hi it marked hj js test =
-    let owners = map seat-number (s .owners) in
-    let found : getD (map numbered (s .marks)) t None ≡ Some p = sym (getD-mapped (λ (q : Place). q .number) (s .marks) d i t hi it) ∙ marked in
-    let owner : b ≡ names t (getD owners (slot p) None) = test ∙ ap (names t) (getD-mapped (λ (u : Seat). u .number) (s .owners) e j (slot p) hj js) in
-    ap (λ x. cond x (Some p) None) owner ∙ sym (ap (if-owned owners t) found)
-
--- what get finds: no mark
-pub get-none : (s : Owner) (t i : ℕ) (d : Option Place) → i < length (s .marks) → i ≡ t → numbered (getD (s .marks) i d) ≡ None → None ≡ owner-get (owner-state s) t
-get-none s t i d hi it bare = sym (ap (if-owned (map seat-number (s .owners)) t) (sym (getD-mapped (λ (q : Place). q .number) (s .marks) d i t hi it) ∙ bare))
+    (meant (owner-state s) (length-map (s .marks) numbered ∙ sixteen .0) (length-map (s .owners) seat-number ∙ sixteen .1) o h)

@@ -1,5 +1,5 @@
 -- What the version scheme does to its state is what the orders mean, and keeps it sound. Assumes nothing.
-use mathlib.Core.Path.{_≡_, refl, sym, ap, _∙_, subst}
+use mathlib.Core.Path.{_≡_, refl, sym, ap, ap₂, _∙_, subst}
 use mathlib.Core.Bool.{Bool, true, false, cond}
 use mathlib.Core.List.{List, map}
 use mathlib.Core.Logic.{_⊎_, inl, inr, ⊎-elim, _≢_}
@@ -12,22 +12,15 @@ use Rattle.std.specs.declared.option.Option.{Option}
 use Rattle.std.specs.declared.option.Option.the-variants.{Some, None}
 use Rattle.std.proofs.shelf.Lists.{getD-set-same, getD-set-other, length-map}
 use Rattle.std.proofs.shelf.Tests.{eq-eqb, ne-eqb, eqb-true, eqb-false, cases-eq, cases-bool}
-use Rattle.basis.specs.declared.place.Place.{Place}
 use Rattle.marks.specs.declared.version.Stamped.{Stamped}
 use Rattle.marks.specs.declared.version.Stamps.{Stamps}
 use Rattle.marks.specs.Meaning.{Order, Means, Seated, Kept}
 use Rattle.marks.specs.Meaning.Order.{release, reserve, revoke}
 use Rattle.marks.specs.Marks.{cleared}
 use Rattle.marks.specs.Spread.{slot}
-use Rattle.marks.specs.Version.{Seen, seen, Versioned, versioned, seen-of, version-state, counter-of, kept-in, raised, restarted, version-act, version-get, if-current, Sound}
-use Rattle.marks.proofs.Cleared.{cleared-at, cleared-cases, map-cleared, set-cases, set-mapped, getD-mapped}
+use Rattle.marks.specs.Version.{Seen, seen, Versioned, versioned, Sixteens, seen-of, version-state, counter-of, kept-in, raised, restarted, version-act, version-get, if-current, Sound}
+use Rattle.marks.proofs.Cleared.{cleared-at, cleared-cases, map-cleared, set-cases, set-mapped}
 use Rattle.marks.proofs.Slots.{slot-below}
-
-abbrev stamped : Place → ℕ → Stamped
-stamped p c = record { place = p; counter = c }
-
-abbrev stamps : List (Option Stamped) → List ℕ → Stamps
-stamps ms cs = record { marks = ms; counters = cs }
 
 -- what is answered is a mark on that place, so it is kept in the place's slot
 answers-mark : (counters : List ℕ) (p : ℕ) (m : Option Seen) → if-current counters m ≡ Some p → kept-in (slot p) m ≡ true
@@ -127,47 +120,30 @@ module _ (s : Versioned) (marks16 : length (s .marks) ≡ 16) (counters16 : leng
       either true u p c e = restarted-sound (slot q) u p c e
       either false u p c e = omega (arith, sound u p c e, grown (slot q) (slot-below q) p)
 
-module _ (s after : Stamps) (marks16 : length (s .marks) ≡ 16) (counters16 : length (s .counters) ≡ 16) (sound : Sound (version-state s)) (o : Order) (h : Seated o) (acted : version-state after ≡ version-act o (version-state s)) where
-  sixteen : length (map (mapped seen-of) (s .marks)) ≡ 16
-  sixteen = length-map (s .marks) (mapped seen-of) ∙ marks16
+module _ (s after : Stamps) (sixteen : Sixteens s) (sound : Sound (version-state s)) (o : Order) (h : Seated o) (acted : version-state after ≡ version-act o (version-state s)) where
+  marks16 : length (map (mapped seen-of) (s .marks)) ≡ 16
+  marks16 = length-map (s .marks) (mapped seen-of) ∙ sixteen .0
 
   -- where the state is what the order makes of it, the order is carried out as it means
   pub version-means : Means false o (version-get (version-state s)) (version-get (version-state after))
-  version-means = subst (λ x. Means false o (version-get (version-state s)) (version-get x)) (sym acted) (meant (version-state s) sixteen counters16 sound o h)
+  version-means = subst (λ x. Means false o (version-get (version-state s)) (version-get x)) (sym acted) (meant (version-state s) marks16 (sixteen .1) sound o h)
 
   pub version-sound : Sound (version-state after)
-  version-sound = subst Sound (sym acted) (kept-sound (version-state s) sixteen counters16 sound o h)
+  version-sound = subst Sound (sym acted) (kept-sound (version-state s) marks16 (sixteen .1) sound o h)
 
--- what the methods write is what the orders make of the state; i, j: the seat's and the place's number, and its slot, as they are computed
-module _ (s : Stamps) (j : ℕ) where
-  pub release-acted : (i t : ℕ) → i ≡ t → version-state (stamps (set (s .marks) i None) (s .counters)) ≡ version-act (release t) (version-state s)
-  release-acted i t it = ap (λ ms. versioned ms (s .counters)) (set-mapped seen-of (s .marks) None i t it)
+-- a mark is written: the state, with what is written under its name
+pub put-acted : (s after : Stamps) (t : ℕ) (m : Option Stamped) → after .marks ≡ set (s .marks) t m → after .counters ≡ s .counters → version-state after ≡ versioned (set (map (mapped seen-of) (s .marks)) t (mapped seen-of m)) (s .counters)
+put-acted s after t m marks counters = ap₂ versioned (set-mapped seen-of (s .marks) (after .marks) t m marks) counters
 
-  pub reserve-acted : (p : Place) (i t : ℕ) → i ≡ t → j ≡ slot (p .number) → version-state (stamps (set (s .marks) i (Some (stamped p (getD (s .counters) j 0)))) (s .counters)) ≡ version-act (reserve t (p .number)) (version-state s)
-  reserve-acted p i t it js =
-      ap (λ ms. versioned ms (s .counters))
-      (set-mapped seen-of (s .marks) (Some (stamped p (getD (s .counters) j 0))) i t it ∙ ap (λ k. set (map (mapped seen-of) (s .marks)) t (Some (seen (p .number) (getD (s .counters) k 0)))) js)
+-- the counter of the slot j of place p is changed
+module _ (s after : Stamps) (p j : ℕ) (js : j ≡ slot p) where
+  revoked : (b : Bool) → eqb (getD (s .counters) j 0) 4294967295 ≡ b → cond b (restarted (version-state s) j) (raised (version-state s) j) ≡ version-act (revoke p) (version-state s)
+  revoked b test = sym (ap (λ x. cond x (restarted (version-state s) j) (raised (version-state s) j)) test) ∙ ap (λ k. cond (eqb (getD (s .counters) k 0) 4294967295) (restarted (version-state s) k) (raised (version-state s) k)) js
 
-  module _ (p : ℕ) (js : j ≡ slot p) where
-    revoked : (b : Bool) → eqb (counter-of (s .counters) p) 4294967295 ≡ b → cond b (restarted (version-state s) j) (raised (version-state s) j) ≡ version-act (revoke p) (version-state s)
-    revoked b test = ap (λ k. cond b (restarted (version-state s) k) (raised (version-state s) k)) js ∙ ap (λ x. cond x (restarted (version-state s) (slot p)) (raised (version-state s) (slot p))) (sym test)
+  pub restart-acted : getD (s .counters) j 0 ≡ 4294967295 → after .marks ≡ cleared (λ m. kept-in j (mapped seen-of m)) (s .marks) → after .counters ≡ set (s .counters) j 0 → version-state after ≡ version-act (revoke p) (version-state s)
+  restart-acted last marks counters =
+      ap₂ versioned (ap (map (mapped seen-of)) marks ∙ map-cleared seen-of (kept-in j) (s .marks)) counters
+      ∙ revoked true (eq-eqb (getD (s .counters) j 0) 4294967295 last)
 
-    pub restart-acted : (ms : List (Option Stamped)) → getD (s .counters) j 0 ≡ 4294967295 → ms ≡ cleared (λ m. kept-in j (mapped seen-of m)) (s .marks) → version-state (stamps ms (set (s .counters) j 0)) ≡ version-act (revoke p) (version-state s)
-    restart-acted ms last struck =
-        ap (λ ns. versioned ns (set (s .counters) j 0)) (ap (map (mapped seen-of)) struck ∙ map-cleared seen-of (kept-in j) (s .marks))
-        ∙ revoked true (eq-eqb (counter-of (s .counters) p) 4294967295 (ap (λ k. getD (s .counters) k 0) (sym js) ∙ last))
-
-    pub raise-acted : (getD (s .counters) j 0 ≡ 4294967295 → ⊥) → version-state (stamps (s .marks) (set (s .counters) j (getD (s .counters) j 0 + 1))) ≡ version-act (revoke p) (version-state s)
-    raise-acted more = revoked false (ne-eqb (counter-of (s .counters) p) 4294967295 (λ e. more (ap (λ k. getD (s .counters) k 0) js ∙ e)))
-
-  -- what get finds: its mark, and b whether the counter of its slot is the one that it keeps
-  pub get-some : (t i : ℕ) (d : Option Stamped) (m : Stamped) (b : Bool) → i < length (s .marks) → i ≡ t → getD (s .marks) i d ≡ Some m → j ≡ slot (m .place .number) → eqb (getD (s .counters) j 0) (m .counter) ≡ b → cond b (Some (m .place .number)) None ≡ version-get (version-state s) t
-  get-some t i d m b hi it marked js test =
-      let found : getD (map (mapped seen-of) (s .marks)) t None ≡ Some (seen-of m) = sym (getD-mapped seen-of (s .marks) d i t hi it) ∙ ap (mapped seen-of) marked in
-      ap (λ x. cond x (Some (m .place .number)) None) (sym test)
-      ∙ ap (λ k. cond (eqb (getD (s .counters) k 0) (m .counter)) (Some (m .place .number)) None) js
-      ∙ sym (ap (if-current (s .counters)) found)
-
-  -- what get finds: no mark
-  pub get-none : (t i : ℕ) (d : Option Stamped) → i < length (s .marks) → i ≡ t → getD (s .marks) i d ≡ None → None ≡ version-get (version-state s) t
-  get-none t i d hi it bare = sym (ap (if-current (s .counters)) (sym (getD-mapped seen-of (s .marks) d i t hi it) ∙ ap (mapped seen-of) bare))
+  pub raise-acted : (getD (s .counters) j 0 ≡ 4294967295 → ⊥) → after .marks ≡ s .marks → after .counters ≡ set (s .counters) j (getD (s .counters) j 0 + 1) → version-state after ≡ version-act (revoke p) (version-state s)
+  raise-acted more marks counters = ap₂ versioned (ap (map (mapped seen-of)) marks) counters ∙ revoked false (ne-eqb (getD (s .counters) j 0) 4294967295 more)

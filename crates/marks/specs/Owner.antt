@@ -1,8 +1,9 @@
 -- The owner scheme, by numbers: a mark for each seat and an owner for each slot. Assumes nothing.
+use mathlib.Core.Path.{_≡_}
 use mathlib.Core.Bool.{cond}
 use mathlib.Core.List.{List, map}
 use Prim.Native.Nat.{ℕ}
-use lib.ListN.{getD, set, replicate}
+use lib.ListN.{length, getD, set, replicate}
 use Rattle.std.specs.declared.option.Option.{Option}
 use Rattle.std.specs.declared.option.Option.the-variants.{Some, None}
 use Rattle.marks.specs.declared.owner.Owner.{Owner}
@@ -18,6 +19,10 @@ pub record Owned : Type 0 where
 
 abbrev pub owned : List (Option ℕ) → List (Option ℕ) → Owned
 owned ms os = record { marks = ms; owners = os }
+
+-- there are sixteen marks and sixteen slots
+abbrev pub Sixteens : Owner → Type 0
+Sixteens s = (length (s .marks) ≡ 16) × (length (s .owners) ≡ 16)
 
 abbrev pub owner-state : Owner → Owned
 owner-state s = owned (map numbered (s .marks)) (map seat-number (s .owners))

@@ -5,10 +5,11 @@ use mathlib.Core.Bool.{Bool, false, cond}
 use mathlib.Core.List.{List, map}
 use Prim.Native.Nat.{ℕ, _+_, _≤_}
 use lib.Dec.{eqb}
-use lib.ListN.{getD, set, replicate}
+use lib.ListN.{length, getD, set, replicate}
 use Rattle.std.specs.Options.{mapped}
 use Rattle.std.specs.declared.option.Option.{Option}
 use Rattle.std.specs.declared.option.Option.the-variants.{Some, None}
+use Rattle.basis.specs.declared.place.Place.{Place}
 use Rattle.marks.specs.declared.version.Stamped.{Stamped}
 use Rattle.marks.specs.declared.version.Stamps.{Stamps}
 use Rattle.marks.specs.Meaning.{Order, Table}
@@ -34,6 +35,13 @@ versioned ms cs = record { marks = ms; counters = cs }
 
 abbrev pub seen-of : Stamped → Seen
 seen-of m = seen (m .place .number) (m .counter)
+
+abbrev pub stamped : Place → ℕ → Stamped
+stamped p c = record { place = p; counter = c }
+
+-- there are sixteen marks and sixteen counters
+abbrev pub Sixteens : Stamps → Type 0
+Sixteens s = (length (s .marks) ≡ 16) × (length (s .counters) ≡ 16)
 
 abbrev pub version-state : Stamps → Versioned
 version-state s = versioned (map (mapped seen-of) (s .marks)) (s .counters)

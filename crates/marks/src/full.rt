@@ -1,8 +1,8 @@
 // The full scheme: a mark for each seat, and a revoke that looks at all of them. It is strict.
 ghost use mathlib.Core.Path.{_≡_};
 ghost use mathlib.Core.Bool.{true};
-ghost use Rattle.marks.specs.Meaning.{Means};
-ghost use Rattle.marks.specs.Meaning.Order.{release, reserve, revoke};
+ghost use lib.ListN.{length, getD, set};
+ghost use Rattle.std.specs.declared.option.Option.the-variants.{None};
 ghost use Rattle.marks.specs.Marks.{numbered, Unmarked, names, cleared};
 ghost use Rattle.marks.specs.Full.{full-state, full-new, full-act, full-get};
 use crate::scheme::Scheme;
@@ -24,6 +24,27 @@ impl Full {
     {
         Full { marks: [None; 16] }
     }
+
+    fn put(&mut self, t: Seat, mark: Option<Place>)
+        ensures sixteen { λ _. ⌜ length (now (self .entry) .marks) ≡ 16 ⌝ }
+        ensures marks { λ _. ⌜ now (self .exit) .marks ≡ set (now (self .entry) .marks) (t .number) mark ⌝ }
+    {
+        self.marks[t.number() as usize] = mark;
+    }
+
+    fn mark_of(&self, t: Seat) -> Option<Place>
+        ensures { λ r. ⌜ r ≡ getD (now (self .entry) .marks) (t .number) None ⌝ }
+    {
+        self.marks[t.number() as usize]
+    }
+
+    // Clears each of the sixteen marks that stands on place p.
+    fn strike(&mut self, p: Place)
+        ensures sixteen { λ _. ⌜ length (now (self .entry) .marks) ≡ 16 ⌝ }
+        ensures marks { λ _. ⌜ now (self .exit) .marks ≡ cleared (λ m. names (p .number) (numbered m)) (now (self .entry) .marks) ⌝ }
+    {
+        clear_each(&mut self.marks, p);
+    }
 }
 
 // Whether the mark stands on place p.
@@ -37,7 +58,7 @@ fn stands_on(mark: Option<Place>, p: Place) -> bool
 }
 
 // Clears each mark that stands on place p.
-fn strike(marks: &mut [Option<Place>], p: Place)
+fn clear_each(marks: &mut [Option<Place>], p: Place)
     ensures { λ _. ⌜ now (marks .exit) ≡ cleared (λ m. names (p .number) (numbered m)) (now (marks .entry)) ⌝ }
 {
     for mark in marks.iter_mut() {
@@ -55,19 +76,19 @@ pub impl Scheme for Full as FullScheme {
     ghost acts = { λ o a b. full-state b ≡ full-act o (full-state a) };
 
     fn reserve(&mut self, t: Seat, p: Place) {
-        self.marks[t.number() as usize] = Some(p);
+        self.put(t, Some(p));
     }
 
     fn release(&mut self, t: Seat) {
-        self.marks[t.number() as usize] = None;
+        self.put(t, None);
     }
 
     fn revoke(&mut self, p: Place) {
-        strike(&mut self.marks, p);
+        self.strike(p);
     }
 
     fn get(&self, t: Seat) -> Option<Place> {
-        self.marks[t.number() as usize]
+        self.mark_of(t)
     }
 }
 

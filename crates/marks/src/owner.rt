@@ -2,8 +2,11 @@
 // reserve takes the slot from whoever owned it.
 ghost use mathlib.Core.Path.{_≡_};
 ghost use mathlib.Core.Bool.{false};
-ghost use Rattle.marks.specs.Marks.{seat-number, Unmarked, names};
-ghost use Rattle.marks.specs.Owner.{owner-state, owner-new, owner-act, owner-get};
+ghost use lib.ListN.{getD, set};
+ghost use Rattle.std.specs.declared.option.Option.the-variants.{Some, None};
+ghost use Rattle.marks.specs.Marks.{numbered, seat-number, Unmarked, names};
+ghost use Rattle.marks.specs.Spread.{slot};
+ghost use Rattle.marks.specs.Owner.{Sixteens, owner-state, owner-new, owner-act, owner-get};
 use crate::scheme::Scheme;
 use crate::spread::slot_of;
 use basis::place::Place;
@@ -27,6 +30,45 @@ impl Owner {
             owners: [None; 16],
         }
     }
+
+    // Writes the mark, and makes seat t the owner of its slot.
+    fn take(&mut self, t: Seat, p: Place)
+        ensures sixteen { λ _. ⌜ Sixteens (now (self .entry)) ⌝ }
+        ensures marks { λ _. ⌜ now (self .exit) .marks ≡ set (now (self .entry) .marks) (t .number) (Some p) ⌝ }
+        ensures owners { λ _. ⌜ now (self .exit) .owners ≡ set (now (self .entry) .owners) (slot (p .number)) (Some t) ⌝ }
+    {
+        self.marks[t.number() as usize] = Some(p);
+        self.owners[slot_of(p)] = Some(t);
+    }
+
+    fn clear(&mut self, t: Seat)
+        ensures sixteen { λ _. ⌜ Sixteens (now (self .entry)) ⌝ }
+        ensures marks { λ _. ⌜ now (self .exit) .marks ≡ set (now (self .entry) .marks) (t .number) None ⌝ }
+        ensures owners { λ _. ⌜ now (self .exit) .owners ≡ now (self .entry) .owners ⌝ }
+    {
+        self.marks[t.number() as usize] = None;
+    }
+
+    // Nobody owns the slot of place p.
+    fn disown(&mut self, p: Place)
+        ensures sixteen { λ _. ⌜ Sixteens (now (self .entry)) ⌝ }
+        ensures marks { λ _. ⌜ now (self .exit) .marks ≡ now (self .entry) .marks ⌝ }
+        ensures owners { λ _. ⌜ now (self .exit) .owners ≡ set (now (self .entry) .owners) (slot (p .number)) None ⌝ }
+    {
+        self.owners[slot_of(p)] = None;
+    }
+
+    fn mark_of(&self, t: Seat) -> Option<Place>
+        ensures { λ r. ⌜ numbered r ≡ getD (owner-state (now (self .entry)) .marks) (t .number) None ⌝ }
+    {
+        self.marks[t.number() as usize]
+    }
+
+    fn owner_of(&self, p: Place) -> Option<Seat>
+        ensures { λ r. ⌜ seat-number r ≡ getD (owner-state (now (self .entry)) .owners) (slot (p .number)) None ⌝ }
+    {
+        self.owners[slot_of(p)]
+    }
 }
 
 // Whether the owner is seat t.
@@ -47,24 +89,25 @@ pub impl Scheme for Owner as OwnerScheme {
     ghost acts = { λ o a b. owner-state b ≡ owner-act o (owner-state a) };
 
     fn reserve(&mut self, t: Seat, p: Place) {
-        self.marks[t.number() as usize] = Some(p);
-        self.owners[slot_of(p)] = Some(t);
+        self.take(t, p);
     }
 
     fn release(&mut self, t: Seat) {
-        self.marks[t.number() as usize] = None;
+        self.clear(t);
     }
 
     fn revoke(&mut self, p: Place) {
-        self.owners[slot_of(p)] = None;
+        self.disown(p);
     }
 
     fn get(&self, t: Seat) -> Option<Place> {
-        let mark = self.marks[t.number() as usize];
-        match mark {
+        match self.mark_of(t) {
             Some(p) => {
-                let owner = self.owners[slot_of(p)];
-                if is_owner(owner, t) { Some(p) } else { None }
+                if is_owner(self.owner_of(p), t) {
+                    Some(p)
+                } else {
+                    None
+                }
             }
             None => None,
         }

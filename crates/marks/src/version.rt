@@ -2,9 +2,12 @@
 // relaxed: a revoke drops every mark of the slot.
 ghost use mathlib.Core.Path.{_≡_};
 ghost use mathlib.Core.Bool.{false};
+ghost use Prim.Native.Nat.{_+_, _<_};
+ghost use lib.ListN.{getD, set};
 ghost use Rattle.std.specs.Options.{mapped};
+ghost use Rattle.std.specs.declared.option.Option.the-variants.{Some, None};
 ghost use Rattle.marks.specs.Marks.{Unmarked, cleared};
-ghost use Rattle.marks.specs.Version.{Sound, seen-of, kept-in, version-state, version-new, version-act, version-get};
+ghost use Rattle.marks.specs.Version.{Sixteens, Sound, stamped, seen-of, kept-in, counter-of, version-state, version-new, version-act, version-get};
 use crate::scheme::Scheme;
 use crate::spread::slot_of;
 use basis::place::Place;
@@ -46,6 +49,60 @@ impl Version {
     }
 }
 
+impl Stamps {
+    // Writes the mark, with the counter of its slot.
+    fn stamp(&mut self, t: Seat, p: Place)
+        ensures sixteen { λ _. ⌜ Sixteens (now (self .entry)) ⌝ }
+        ensures marks { λ _. ⌜ now (self .exit) .marks ≡ set (now (self .entry) .marks) (t .number) (Some (stamped p (counter-of (now (self .entry) .counters) (p .number)))) ⌝ }
+        ensures counters { λ _. ⌜ now (self .exit) .counters ≡ now (self .entry) .counters ⌝ }
+    {
+        let counter = self.counters[slot_of(p)];
+        self.marks[t.number() as usize] = Some(Stamped { place: p, counter });
+    }
+
+    fn clear(&mut self, t: Seat)
+        ensures sixteen { λ _. ⌜ Sixteens (now (self .entry)) ⌝ }
+        ensures marks { λ _. ⌜ now (self .exit) .marks ≡ set (now (self .entry) .marks) (t .number) None ⌝ }
+        ensures counters { λ _. ⌜ now (self .exit) .counters ≡ now (self .entry) .counters ⌝ }
+    {
+        self.marks[t.number() as usize] = None;
+    }
+
+    // The counter of that slot goes one up.
+    fn raise(&mut self, slot: usize)
+        requires { ⌜ slot < 16 ⌝ ∗ ⌜ getD (now self .counters) slot 0 < 4294967295 ⌝ }
+        ensures sixteen { λ _. ⌜ Sixteens (now (self .entry)) ⌝ }
+        ensures marks { λ _. ⌜ now (self .exit) .marks ≡ now (self .entry) .marks ⌝ }
+        ensures counters { λ _. ⌜ now (self .exit) .counters ≡ set (now (self .entry) .counters) slot (getD (now (self .entry) .counters) slot 0 + 1) ⌝ }
+    {
+        self.counters[slot] += 1;
+    }
+
+    // The counter of that slot goes to 0, and all marks kept in the slot are cleared.
+    fn restart(&mut self, slot: usize)
+        requires { ⌜ slot < 16 ⌝ }
+        ensures sixteen { λ _. ⌜ Sixteens (now (self .entry)) ⌝ }
+        ensures marks { λ _. ⌜ now (self .exit) .marks ≡ cleared (λ m. kept-in slot (mapped seen-of m)) (now (self .entry) .marks) ⌝ }
+        ensures counters { λ _. ⌜ now (self .exit) .counters ≡ set (now (self .entry) .counters) slot 0 ⌝ }
+    {
+        self.counters[slot] = 0;
+        clear_slot(&mut self.marks, slot);
+    }
+
+    fn mark_of(&self, t: Seat) -> Option<Stamped>
+        ensures { λ r. ⌜ mapped seen-of r ≡ getD (version-state (now (self .entry)) .marks) (t .number) None ⌝ }
+    {
+        self.marks[t.number() as usize]
+    }
+
+    // The counter of the slot of place p.
+    fn counter_of(&self, p: Place) -> u32
+        ensures { λ r. ⌜ r ≡ counter-of (now (self .entry) .counters) (p .number) ⌝ }
+    {
+        self.counters[slot_of(p)]
+    }
+}
+
 // Whether the mark is kept in that slot.
 fn is_kept_in(mark: Option<Stamped>, slot: usize) -> bool
     ensures { λ r. ⌜ r ≡ kept-in slot (mapped seen-of mark) ⌝ }
@@ -75,30 +132,27 @@ pub impl Scheme for Version as VersionScheme {
     ghost acts = { λ o a b. version-state (b .kept) ≡ version-act o (version-state (a .kept)) };
 
     fn reserve(&mut self, t: Seat, p: Place) {
-        let counter = self.kept.counters[slot_of(p)];
-        self.kept.marks[t.number() as usize] = Some(Stamped { place: p, counter });
+        self.kept.stamp(t, p);
     }
 
     fn release(&mut self, t: Seat) {
-        self.kept.marks[t.number() as usize] = None;
+        self.kept.clear(t);
     }
 
     fn revoke(&mut self, p: Place) {
         let slot = slot_of(p);
         let counter = self.kept.counters[slot];
         if counter == 4_294_967_295 {
-            self.kept.counters[slot] = 0;
-            clear_slot(&mut self.kept.marks, slot);
+            self.kept.restart(slot);
         } else {
-            self.kept.counters[slot] = counter + 1;
+            self.kept.raise(slot);
         }
     }
 
     fn get(&self, t: Seat) -> Option<Place> {
-        let mark = self.kept.marks[t.number() as usize];
-        match mark {
+        match self.kept.mark_of(t) {
             Some(m) => {
-                if self.kept.counters[slot_of(m.place)] == m.counter {
+                if self.kept.counter_of(m.place) == m.counter {
                     Some(m.place)
                 } else {
                     None

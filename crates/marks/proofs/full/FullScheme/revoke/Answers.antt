@@ -1,13 +1,8 @@
-use mathlib.Core.Path.{ap, _∙_}
-use mathlib.Core.List.{map}
-use borrow.Author.Needs.{needs}
-use Rattle.marks.specs.Marks.{numbered, names}
 use Rattle.marks.specs.Meaning.Order.{revoke}
-use Rattle.marks.proofs.Cleared.{map-cleared}
-use Rattle.marks.proofs.FullLaws.{full-means}
+use Rattle.marks.proofs.FullLaws.{full-means, strike-acted}
 use Rattle.marks.proofs.full.FullScheme.revoke.Needs as need
 
 pub returns : need.returns
 returns c =
-    let acted = ap (map numbered) (c .strike .ensures) ∙ map-cleared (λ p. p .number) (names (c .args .p .number)) (c .args .self .now .marks) in
-    record { means = full-means _ _ (search needs) (revoke (c .args .p .number)) tt acted; acts = acted }
+    let acted = strike-acted (c .args .self .now) _ _ (c .strike .ensures .marks) in
+    record { means = full-means _ _ (c .strike .ensures .sixteen) (revoke (c .args .p .number)) tt acted; acts = acted }

@@ -1,8 +1,8 @@
 use mathlib.Core.Bool.{true, false}
 use Rattle.marks.specs.Marks.{numbered, names}
 use Rattle.marks.proofs.Cleared.{cleared-more, cleared-all}
-use Rattle.marks.proofs.full.strike.Needs as need
-use Rattle.marks.proofs.full.strike.Needs.{then-stands-on, else-stands-on}
+use Rattle.marks.proofs.full.clear_each.Needs as need
+use Rattle.marks.proofs.full.clear_each.Needs.{then-stands-on, else-stands-on}
 
 pub loop-mark-again : need.loop-mark-again
 loop-mark-again c =
