@@ -7,7 +7,7 @@ ghost use lib.ListN.{getD, set};
 ghost use Rattle.std.specs.Options.{mapped};
 ghost use Rattle.std.specs.declared.option.Option.the-variants.{Some, None};
 ghost use Rattle.marks.specs.Marks.{Unmarked, cleared};
-ghost use Rattle.marks.specs.Version.{Sixteens, Sound, stamped, seen-of, kept-in, counter-of, version-state, version-new, version-act, version-get};
+ghost use Rattle.marks.specs.Version.{Sixteens, Sound, stamped, seen-of, kept-in, counter-of, version-state, version-new, version-revoke, version-act, version-get};
 use crate::scheme::Scheme;
 use crate::spread::slot_of;
 use basis::place::Place;
@@ -89,6 +89,20 @@ impl Stamps {
         clear_slot(&mut self.marks, slot);
     }
 
+    // One more revoke of place p is counted.
+    fn count_revoke(&mut self, p: Place)
+        ensures sixteen { λ _. ⌜ Sixteens (now (self .entry)) ⌝ }
+        ensures exact { λ _. ⌜ version-state (now (self .exit)) ≡ version-revoke (version-state (now (self .entry))) (p .number) ⌝ }
+    {
+        let slot = slot_of(p);
+        let counter = self.counters[slot];
+        if counter == 4_294_967_295 {
+            self.restart(slot);
+        } else {
+            self.raise(slot);
+        }
+    }
+
     fn mark_of(&self, t: Seat) -> Option<Stamped>
         ensures { λ r. ⌜ mapped seen-of r ≡ getD (version-state (now (self .entry)) .marks) (t .number) None ⌝ }
     {
@@ -140,13 +154,7 @@ pub impl Scheme for Version as VersionScheme {
     }
 
     fn revoke(&mut self, p: Place) {
-        let slot = slot_of(p);
-        let counter = self.kept.counters[slot];
-        if counter == 4_294_967_295 {
-            self.kept.restart(slot);
-        } else {
-            self.kept.raise(slot);
-        }
+        self.kept.count_revoke(p);
     }
 
     fn get(&self, t: Seat) -> Option<Place> {
