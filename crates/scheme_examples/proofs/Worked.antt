@@ -36,6 +36,6 @@ owner-run a b c t p u q t0 p0 u1 q16 made first second =
     ap₂ owner-get (second ∙ ap₂ owner-act (ap₂ reserve u1 q16) (first ∙ ap₂ owner-act (ap₂ reserve t0 p0) made)) t0 ∙ examples .taken
 
 -- a run of the version scheme: seat t marks p, q is revoked, and t asks
-pub version-run : (a b c : Versioned) (t p q : ℕ) → t ≡ 0 → p ≡ 1 → q ≡ 17 → a ≡ version-new 4294967295 → b ≡ version-act (reserve t p) a → c ≡ version-act (revoke q) b → version-get c t ≡ None
-version-run a b c t p q t0 p1 q17 made first second =
-    ap₂ version-get (second ∙ ap₂ version-act (ap revoke q17) (first ∙ ap₂ version-act (ap₂ reserve t0 p1) made)) t0 ∙ examples .outdated
+pub version-run : (a b c : Versioned) (n t p q : ℕ) → n ≡ 4294967295 → t ≡ 0 → p ≡ 1 → q ≡ 17 → a ≡ version-new n → b ≡ version-act (reserve t p) a → c ≡ version-act (revoke q) b → version-get c t ≡ None
+version-run a b c n t p q last t0 p1 q17 made first second =
+    ap₂ version-get (second ∙ ap₂ version-act (ap revoke q17) (first ∙ ap₂ version-act (ap₂ reserve t0 p1) (made ∙ ap version-new last))) t0 ∙ examples .outdated

@@ -1,5 +1,5 @@
 use Rattle.scheme_examples.proofs.Worked.{examples}
-use Rattle.scheme_examples.proofs.examples.examples_hold.Needs as need
+use Rattle.scheme_examples.proofs.examples.compute_examples.Needs as need
 
 pub returns : need.returns
 returns c = examples
