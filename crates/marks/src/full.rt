@@ -29,7 +29,8 @@ impl Full {
         ensures sixteen { λ _. ⌜ length (now (self .entry) .marks) ≡ 16 ⌝ }
         ensures marks { λ _. ⌜ now (self .exit) .marks ≡ set (now (self .entry) .marks) (t .number) mark ⌝ }
     {
-        self.marks[t.number() as usize] = mark;
+        let seat = t.number() as usize;
+        self.marks[seat] = mark;
     }
 
     fn mark_of(&self, t: Seat) -> Option<Place>
