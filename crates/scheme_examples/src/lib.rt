@@ -2,5 +2,6 @@
 pub mod examples;
 pub mod generic;
 pub mod uses;
+pub mod whole;
 #[cfg(test)]
 mod tests;
