@@ -1,0 +1,7 @@
+pub mod Meaning
+pub mod Marks
+pub mod Spread
+pub mod Full
+pub mod Owner
+pub mod Version
+pub mod Pair
