@@ -57,7 +57,7 @@ fn owner_keeps_its_slot_after_a_release() -> Result<(), Fail> {
     check_eq(scheme.get(other), Some(Place::new(5)?))
 }
 
-// A stale mark of the slot does not come back when the counter goes up to where it would have been.
+// The counter of a slot passes its last number: its old mark stays gone, a new one is good, and another slot's mark stands.
 #[test]
 fn version_drops_the_slot_and_no_other() -> Result<(), Fail> {
     let seat = Seat::new(1)?;
