@@ -1,9 +1,15 @@
 // The states by which the contracts of the schemes speak tell all of them.
-ghost use Rattle.scheme_examples.specs.Whole.{States-tell-all};
+ghost use Rattle.marks.specs.Full.{full-state};
+ghost use Rattle.marks.specs.Owner.{owner-state};
+ghost use Rattle.marks.specs.Version.{version-state};
+ghost use Rattle.scheme_examples.specs.Whole.{Tells-all, States-tell-all};
+use marks::version::Version;
 
-// What an order makes of a scheme's state is what it makes of the scheme: two of equal states are equal.
+// Two schemes of equal states are equal, so what an order makes of a state is what it makes of the scheme.
 pub fn states_tell_all() -> u8
-    ensures { λ _. ⌜ States-tell-all ⌝ }
+    ensures full { λ _. ⌜ Tells-all full-state ⌝ }
+    ensures owner { λ _. ⌜ Tells-all owner-state ⌝ }
+    ensures version { λ _. ⌜ Tells-all (λ (v : Version). version-state (v .kept)) ⌝ }
 {
     compare_states();
     0
