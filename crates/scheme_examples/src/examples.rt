@@ -28,8 +28,7 @@ pub fn examples_hold() -> u8
 
 fn compute_examples()
     ensures computed { λ _. ⌜ Examples ⌝ }
-{
-}
+{}
 
 // Owner: seat 0 reserves 0, seat 1 reserves 16, then seat 0's mark is none.
 pub fn owner_loses_its_slot() -> Result<Option<Place>, Refusal>

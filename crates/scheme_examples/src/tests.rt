@@ -95,6 +95,12 @@ fn generic_code_runs_at_each() -> Result<(), Fail> {
     let pair = Pair::new(Full::new(), Owner::new(), BankBit::new(1)?);
     let mut nested = Pair::new(pair, Version::new(7), bit);
     check_eq(revoked_at_each(0, bit, &mut nested, seat, place), [None; 5])?;
-    check_eq(beside_another_in_nested(bit, BankBit::new(0)?, seat, seat, place), Some(place))?;
-    check_eq(beside_another_in_nested(bit, BankBit::new(0)?, seat, Seat::new(8)?, place), None)
+    check_eq(
+        beside_another_in_nested(bit, BankBit::new(0)?, seat, seat, place),
+        Some(place),
+    )?;
+    check_eq(
+        beside_another_in_nested(bit, BankBit::new(0)?, seat, Seat::new(8)?, place),
+        None,
+    )
 }

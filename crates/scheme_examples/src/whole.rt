@@ -17,5 +17,4 @@ pub fn states_tell_all() -> u8
 
 fn compare_states()
     ensures { λ _. ⌜ States-tell-all ⌝ }
-{
-}
+{}
