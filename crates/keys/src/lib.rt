@@ -1,6 +1,6 @@
 // What a key is, and the keys: sectors and wear keys.
 pub mod key;
 pub mod sector;
-pub mod wear;
 #[cfg(test)]
 mod tests;
+pub mod wear;

@@ -13,7 +13,9 @@ use std::test::*;
 
 #[test]
 fn sectors_are_ordered_by_number() -> Result<(), Fail> {
-    let last = Sector { number: 4_294_967_295 };
+    let last = Sector {
+        number: 4_294_967_295,
+    };
     check(Sector { number: 0 }.is_below(last))?;
     check(!last.is_below(last))?;
     check(!last.is_below(Sector { number: 7 }))

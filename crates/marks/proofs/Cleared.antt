@@ -51,16 +51,16 @@ set-mapped f ms after i m e = ap (map (mapped f)) e ∙ map-set (mapped f) ms i 
 pub cleared-at : {X : Type 0} (test : Option X → Bool) (ms : List (Option X)) (u : ℕ) → u < length ms → getD (cleared test ms) u None ≡ cond (test (getD ms u None)) None (getD ms u None)
 cleared-at test ms u h = getD-map (λ m. cond (test m) None m) ms u None None h
 
+pub none-is-not-some : {X P : Type 0} {x : X} → None ≡ Some x → P
+none-is-not-some e = let z : _≡_ {A = ℕ} 0 1 = cc in absurd (omega arith)
+
 -- a mark that is there after some were cleared was there before, and does not pass the test
 pub cleared-cases : {X : Type 0} (test : Option X → Bool) (ms : List (Option X)) (u : ℕ) (x : X) → getD (cleared test ms) u None ≡ Some x → (getD ms u None ≡ Some x) × (test (Some x) ≡ false)
-cleared-cases test [] u x e = cc-absurd e
-  where
-    cc-absurd : {X : Type 0} {x : X} {P : Type 0} → None ≡ Some x → P
-    cc-absurd e = let z : _≡_ {A = ℕ} 0 1 = cc in absurd (omega arith)
+cleared-cases test [] u x e = none-is-not-some e
 cleared-cases test (m ∷ ms) zero x e = left (test m) refl e
   where
     left : (b : Bool) → test m ≡ b → cond b None m ≡ Some x → (m ≡ Some x) × (test (Some x) ≡ false)
-    left true t e = let z : _≡_ {A = ℕ} 0 1 = cc in absurd (omega arith)
+    left true t e = none-is-not-some e
     left false t e = (e, ap test (sym e) ∙ t)
 cleared-cases test (m ∷ ms) (suc u) x e = cleared-cases test ms u x e
 

@@ -3,3 +3,4 @@ pub mod Slots
 pub mod FullLaws
 pub mod OwnerLaws
 pub mod VersionLaws
+pub mod Computed

@@ -45,18 +45,18 @@ module _ (s : Owned) (marks16 : length (s .marks) ≡ 16) (owners16 : length (s 
   }
   meant (reserve t p) h = record {
     own =
-      ap (if-owned (set (s .owners) (slot p) (Some t)) t) (getD-set-same (s .marks) t (Some p) None (omega arith))
-      ∙ ap (λ x. cond (names t x) (Some p) None) (getD-set-same (s .owners) (slot p) (Some t) None (omega (arith, slot-below p)))
-      ∙ ap (λ b. cond b (Some p) None) (eq-eqb t t refl);
+        ap (if-owned (set (s .owners) (slot p) (Some t)) t) (getD-set-same (s .marks) t (Some p) None (omega arith))
+        ∙ ap (λ x. cond (names t x) (Some p) None) (getD-set-same (s .owners) (slot p) (Some t) None (omega (arith, slot-below p)))
+        ∙ ap (λ b. cond b (Some p) None) (eq-eqb t t refl);
     others = λ u l ne.
-      let P : Option ℕ → Type 0 = λ m. Kept false (owner-get s u) (if-owned (set (s .owners) (slot p) (Some t)) u m) in
-      subst P (sym (getD-set-other (s .marks) t u (Some p) None ne))
-      (shifted (slot p) (slot-below p) (Some t) u (ne-eqb t u (λ e. ne (sym e))) (getD (s .marks) u None));
+        let P : Option ℕ → Type 0 = λ m. Kept false (owner-get s u) (if-owned (set (s .owners) (slot p) (Some t)) u m) in
+        subst P (sym (getD-set-other (s .marks) t u (Some p) None ne))
+        (shifted (slot p) (slot-below p) (Some t) u (ne-eqb t u (λ e. ne (sym e))) (getD (s .marks) u None));
   }
   meant (revoke p) h = record {
     struck = λ u l e.
-      ap (if-owned (set (s .owners) (slot p) None) u) (answers-mark (s .owners) u p (getD (s .marks) u None) e)
-      ∙ ap (λ x. cond (names u x) (Some p) None) (getD-set-same (s .owners) (slot p) None None (omega (arith, slot-below p)));
+        ap (if-owned (set (s .owners) (slot p) None) u) (answers-mark (s .owners) u p (getD (s .marks) u None) e)
+        ∙ ap (λ x. cond (names u x) (Some p) None) (getD-set-same (s .owners) (slot p) None None (omega (arith, slot-below p)));
     others = λ u l ne. shifted (slot p) (slot-below p) None u refl (getD (s .marks) u None);
   }
 

@@ -19,17 +19,17 @@ use Rattle.marks.specs.Meaning.Order.{release, reserve, revoke}
 use Rattle.marks.specs.Marks.{cleared}
 use Rattle.marks.specs.Spread.{slot}
 use Rattle.marks.specs.Version.{Seen, seen, Versioned, versioned, Sixteens, seen-of, version-state, counter-of, kept-in, raised, restarted, version-act, version-get, if-current, Sound}
-use Rattle.marks.proofs.Cleared.{cleared-at, cleared-cases, map-cleared, set-cases, set-mapped}
+use Rattle.marks.proofs.Cleared.{cleared-at, cleared-cases, map-cleared, none-is-not-some, set-cases, set-mapped}
 use Rattle.marks.proofs.Slots.{slot-below}
 
 -- what is answered is a mark on that place, so it is kept in the place's slot
 answers-mark : (counters : List ℕ) (p : ℕ) (m : Option Seen) → if-current counters m ≡ Some p → kept-in (slot p) m ≡ true
-answers-mark counters p None e = let z : _≡_ {A = ℕ} 0 1 = cc in absurd (omega arith)
+answers-mark counters p None e = none-is-not-some e
 answers-mark counters p (Some m) e = kept (eqb (counter-of counters (m .place)) (m .counter)) e
   where
     kept : (b : Bool) → cond b (Some (m .place)) None ≡ Some p → eqb (slot (m .place)) (slot p) ≡ true
     kept true e = let same : m .place ≡ p = cc in eq-eqb (slot (m .place)) (slot p) (ap slot same)
-    kept false e = let z : _≡_ {A = ℕ} 0 1 = cc in absurd (omega arith)
+    kept false e = none-is-not-some e
 
 -- another slot's counter says nothing of a mark
 elsewhere : (counters : List ℕ) (k v : ℕ) (m : Option Seen) → kept-in k m ≡ false → if-current (set counters k v) m ≡ if-current counters m
@@ -79,10 +79,10 @@ module _ (s : Versioned) (marks16 : length (s .marks) ≡ 16) (counters16 : leng
       record {
         struck = λ u l e. gone (slot p) u (slot-below p) l wraps (answers-mark (s .counters) p (getD (s .marks) u None) e);
         others = λ u l ne.
-          ⊎-elim
-          (λ here. inr (refl, gone (slot p) u (slot-below p) l wraps here))
-          (λ apart. inl (stays (slot p) u (slot-below p) l wraps apart))
-          (cases-bool (kept-in (slot p) (getD (s .marks) u None)));
+            ⊎-elim
+            (λ here. inr (refl, gone (slot p) u (slot-below p) l wraps here))
+            (λ apart. inl (stays (slot p) u (slot-below p) l wraps apart))
+            (cases-bool (kept-in (slot p) (getD (s .marks) u None)));
       }
 
   -- no mark that is left has a counter of more than its slot's
@@ -98,20 +98,20 @@ module _ (s : Versioned) (marks16 : length (s .marks) ≡ 16) (counters16 : leng
       let c : ℕ = getD (s .counters) k 0 in
       ⊎-elim
       (λ same.
-        let before : counter-of (s .counters) p ≡ c = ap (λ j. getD (s .counters) j 0) same in
-        let after : counter-of (set (s .counters) k (c + 1)) p ≡ c + 1 = ap (λ j. getD (set (s .counters) k (c + 1)) j 0) same ∙ getD-set-same (s .counters) k (c + 1) 0 (omega arith) in
-        omega arith)
+      let before : counter-of (s .counters) p ≡ c = ap (λ j. getD (s .counters) j 0) same in
+      let after : counter-of (set (s .counters) k (c + 1)) p ≡ c + 1 = ap (λ j. getD (set (s .counters) k (c + 1)) j 0) same ∙ getD-set-same (s .counters) k (c + 1) 0 (omega arith) in
+      omega arith)
       (λ apart. omega (arith, getD-set-other (s .counters) k (slot p) (c + 1) 0 apart))
       (cases-eq (slot p) k)
 
   kept-sound : (o : Order) → Seated o → Sound (version-act o s)
-  kept-sound (release t) h u p c e = ⊎-elim (λ none. let z : _≡_ {A = ℕ} 0 1 = cc in absurd (omega arith)) (sound u p c) (set-cases (s .marks) t None u (seen p c) e)
+  kept-sound (release t) h u p c e = ⊎-elim none-is-not-some (sound u p c) (set-cases (s .marks) t None u (seen p c) e)
   kept-sound (reserve t q) h u p c e =
       ⊎-elim
       (λ own.
-        let same : seen q (counter-of (s .counters) q) ≡ seen p c = cc in
-        let place : q ≡ p = ap (λ (m : Seen). m .place) same in
-        omega (arith, ap (λ (m : Seen). m .counter) same, ap (counter-of (s .counters)) place))
+      let same : seen q (counter-of (s .counters) q) ≡ seen p c = cc in
+      let place : q ≡ p = ap (λ (m : Seen). m .place) same in
+      omega (arith, ap (λ (m : Seen). m .counter) same, ap (counter-of (s .counters)) place))
       (sound u p c)
       (set-cases (s .marks) t (Some (seen q (counter-of (s .counters) q))) u (seen p c) e)
   kept-sound (revoke q) h u p c e = either (eqb (counter-of (s .counters) q) 4294967295) u p c e

@@ -5,3 +5,4 @@ pub mod Full
 pub mod Owner
 pub mod Version
 pub mod Pair
+pub mod Carried

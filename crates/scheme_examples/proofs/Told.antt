@@ -62,8 +62,8 @@ pub states-tell-all : States-tell-all
 states-tell-all = record {
   full = λ a b e. ap (λ (ms : List (Option Place)). record { marks = ms }) (entries-told (λ (p : Place). p .number) place-told (a .marks) (b .marks) e);
   owner = λ a b e.
-    ap₂ (λ (ms : List (Option Place)) (os : List (Option Seat)). record { marks = ms; owners = os })
-    (entries-told (λ (p : Place). p .number) place-told (a .marks) (b .marks) (ap (λ (s : Owned). s .marks) e))
-    (entries-told (λ (t : Seat). t .number) seat-told (a .owners) (b .owners) (ap (λ (s : Owned). s .owners) e));
+      ap₂ (λ (ms : List (Option Place)) (os : List (Option Seat)). record { marks = ms; owners = os })
+      (entries-told (λ (p : Place). p .number) place-told (a .marks) (b .marks) (ap (λ (s : Owned). s .marks) e))
+      (entries-told (λ (t : Seat). t .number) seat-told (a .owners) (b .owners) (ap (λ (s : Owned). s .owners) e));
   version = version-told;
 }

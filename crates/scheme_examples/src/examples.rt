@@ -3,6 +3,7 @@ ghost use mathlib.Core.Path.{_≡_};
 ghost use mathlib.Core.Bool.{true};
 ghost use Rattle.std.specs.declared.option.Option.the-variants.{None};
 ghost use Rattle.std.specs.declared.result.Result.the-variants.{Ok};
+ghost use Rattle.marks.specs.Spread.{slot};
 ghost use Rattle.scheme_examples.specs.Examples.{Examples};
 use basis::place::Place;
 use basis::refusal::Refusal;
@@ -26,9 +27,8 @@ pub fn examples_hold() -> u8
 }
 
 fn compute_examples()
-    ensures { λ _. ⌜ Examples ⌝ }
-{
-}
+    ensures computed { λ _. ⌜ Examples ⌝ }
+{}
 
 // Owner: seat 0 reserves 0, seat 1 reserves 16, then seat 0's mark is none.
 pub fn owner_loses_its_slot() -> Result<Option<Place>, Refusal>
@@ -75,7 +75,8 @@ fn run_version(start: u32, t: Seat, p: Place, q: Place) -> Option<Place>
 
 // Places 3 and 19 go to slot 5.
 pub fn slots_of_3_and_19() -> Result<(usize, usize), Refusal>
-    ensures { λ r. ⌜ r ≡ Ok (5, 5) ⌝ }
+    ensures answer { λ r. ⌜ r ≡ Ok (5, 5) ⌝ }
+    ensures slots { λ r. ⌜ r ≡ Ok (slot 3, slot 19) ⌝ }
 {
     compute_examples();
     let low = Place::new(3)?;

@@ -57,7 +57,7 @@ fn owner_keeps_its_slot_after_a_release() -> Result<(), Fail> {
     check_eq(scheme.get(other), Some(Place::new(5)?))
 }
 
-// A stale mark of the slot does not come back when the counter goes up to where it would have been.
+// The counter of a slot passes its last number: its old mark stays gone, a new one is good, and another slot's mark stands.
 #[test]
 fn version_drops_the_slot_and_no_other() -> Result<(), Fail> {
     let seat = Seat::new(1)?;
@@ -95,6 +95,12 @@ fn generic_code_runs_at_each() -> Result<(), Fail> {
     let pair = Pair::new(Full::new(), Owner::new(), BankBit::new(1)?);
     let mut nested = Pair::new(pair, Version::new(7), bit);
     check_eq(revoked_at_each(0, bit, &mut nested, seat, place), [None; 5])?;
-    check_eq(beside_another_in_nested(bit, BankBit::new(0)?, seat, seat, place), Some(place))?;
-    check_eq(beside_another_in_nested(bit, BankBit::new(0)?, seat, Seat::new(8)?, place), None)
+    check_eq(
+        beside_another_in_nested(bit, BankBit::new(0)?, seat, seat, place),
+        Some(place),
+    )?;
+    check_eq(
+        beside_another_in_nested(bit, BankBit::new(0)?, seat, Seat::new(8)?, place),
+        None,
+    )
 }

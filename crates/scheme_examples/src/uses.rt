@@ -34,7 +34,13 @@ pub type Nested = Pair<Pair<Full, Owner>, Version>;
 pub type StrictNested = Pair<Full, Pair<Full, Full>>;
 
 // A place that is revoked as soon as it is marked: no mark, at each of the schemes.
-pub fn revoked_at_each(start: u32, bit: BankBit, nested: &mut Nested, t: Seat, p: Place) -> [Option<Place>; 5]
+pub fn revoked_at_each(
+    start: u32,
+    bit: BankBit,
+    nested: &mut Nested,
+    t: Seat,
+    p: Place,
+) -> [Option<Place>; 5]
     ensures { λ r. ⌜ r ≡ None ∷ (None ∷ (None ∷ (None ∷ (None ∷ [])))) ⌝ }
 {
     let mut full = Full::new();
@@ -82,7 +88,13 @@ pub fn beside_another_in_full(full: &mut Full, t: Seat, u: Seat, p: Place) -> Op
 }
 
 // The marks of a strict pair of pairs, just made.
-pub fn beside_another_in_nested(outer: BankBit, inner: BankBit, t: Seat, u: Seat, p: Place) -> Option<Place>
+pub fn beside_another_in_nested(
+    outer: BankBit,
+    inner: BankBit,
+    t: Seat,
+    u: Seat,
+    p: Place,
+) -> Option<Place>
     ensures { λ r. ⌜ numbered r ≡ cond (eqb (t .number) (u .number)) (Some (p .number)) None ⌝ }
 {
     let pair = Pair::new(Full::new(), Full::new(), inner);

@@ -8,8 +8,8 @@ pub loop-mark-again : need.loop-mark-again
 loop-mark-again c =
     let step = cleared-more (λ m. names (c .args .p .number) (numbered m)) _ _ _ _ (c .loop-mark-test .taken) (c .loop-mark .inv) (c .mark-item .is) in
     elim (c .if-stands-on .came) [
-      then-stands-on w ↦ step true (w .if-stands-on .ensures tt) _ (w .marks-is)
-    | else-stands-on w ↦ step false (w .if-stands-on .ensures tt) _ (w .marks-is)
+      | then-stands-on w ↦ step true (w .if-stands-on .ensures tt) _ (w .marks-is)
+      | else-stands-on w ↦ step false (w .if-stands-on .ensures tt) _ (w .marks-is)
     ]
 
 pub returns : need.returns

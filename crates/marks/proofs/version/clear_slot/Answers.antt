@@ -9,8 +9,8 @@ pub loop-mark-again : need.loop-mark-again
 loop-mark-again c =
     let step = cleared-more (λ m. kept-in (c .args .slot) (mapped seen-of m)) _ _ _ _ (c .loop-mark-test .taken) (c .loop-mark .inv) (c .mark-item .is) in
     elim (c .if-is-kept-in .came) [
-      then-is-kept-in w ↦ step true (w .if-is-kept-in .ensures tt) _ (w .marks-is)
-    | else-is-kept-in w ↦ step false (w .if-is-kept-in .ensures tt) _ (w .marks-is)
+      | then-is-kept-in w ↦ step true (w .if-is-kept-in .ensures tt) _ (w .marks-is)
+      | else-is-kept-in w ↦ step false (w .if-is-kept-in .ensures tt) _ (w .marks-is)
     ]
 
 pub returns : need.returns
