@@ -137,5 +137,5 @@ holds-all bytes c reader opened all s stops refused at =
       parts = ap (λ l. l .entries) (sym is) ∙ sym (ap (entries-of bytes) opened);
       refused = refused ∙ ap stop-number asked ∙ sym (ap (refusal-of bytes) opened);
       stop = at ∙ (λ i. s .total i - length (sym is i .rest)) ∙ sym (ap (stop-of bytes) opened);
-      accounted = nothing-lost 256 (omega arith) bytes all;
+      accounted = nothing-lost bytes all;
     }

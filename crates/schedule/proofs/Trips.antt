@@ -8,8 +8,7 @@ use native.Mathlib.Omega.{arith}
 use lib.Dec.{eqb, ltb, lit<}
 use lib.ListN.{length}
 use Rattle.std.proofs.shelf.Lists.{append-assoc, length-append}
-use Rattle.std.proofs.shelf.Elements.{all-append, all-weaker}
-use Rattle.std.proofs.shelf.Bits.{mul-le}
+use Rattle.std.proofs.shelf.Elements.{all-append}
 use Rattle.std.proofs.shelf.Tests.{cond-false, le-ltb, eqb-true}
 use Rattle.std.specs.declared.option.Option.{Option}
 use Rattle.std.specs.declared.option.Option.the-variants.{Some, None}
@@ -145,18 +144,17 @@ begins-with-one x rest e = go (eqb x 1) (eqb-true x 1) (second (ltb 60000 (lengt
     go true is e = is refl
     go false is e = none-left (sym e)
 
--- each law holds up to its bound
-pub round-trip : (limit : ℕ) → limit ≤ 60000 → Round-trip limit
-round-trip limit most rs l h = (
+pub round-trip : Round-trip 60000
+round-trip rs l h = (
   (lit< tt, joined-bytes true rs l),
-  cond-false _ _ _ (le-ltb 60000 (length (schedule rs)) (omega arith)),
+  cond-false _ _ _ (le-ltb 60000 (length (schedule rs)) h),
   back (length (schedule rs)) true (length (schedule rs)) 1 rs l (omega arith) (omega arith),
 )
 
-pub nothing-lost : (bound : ℕ) → bound ≤ 256 → Nothing-lost bound
-nothing-lost bound most [] b e = none-left (sym e)
-nothing-lost bound most (x ∷ rest) b e =
-    let all = from (length (x ∷ rest)) true (length (x ∷ rest)) 1 rest (all-weaker (λ b. b < bound) (λ b. b < 256) (λ b h. omega arith) rest (b .1)) (omega arith) (omega arith) in
+pub nothing-lost : Nothing-lost 256
+nothing-lost [] b e = none-left (sym e)
+nothing-lost (x ∷ rest) b e =
+    let all = from (length (x ∷ rest)) true (length (x ∷ rest)) 1 rest (b .1) (omega arith) (omega arith) in
     record {
       records = all .records;
       lawful = all .lawful;
@@ -183,6 +181,6 @@ ends (suc n) first total rest h =
       | malformed ↦ λ is. subst Stops (sym is) tt
     ] refl
 
-pub reading-ends : (each : ℕ) → each ≤ 4 → Reading-ends each
-reading-ends each most [] n e h = none-left (sym e)
-reading-ends each most (x ∷ rest) n e h = ends n true (length (x ∷ rest)) rest (omega (arith, mul-le each n 4 n most (omega arith)))
+pub reading-ends : Reading-ends 4
+reading-ends [] n e h = none-left (sym e)
+reading-ends (x ∷ rest) n e h = ends n true (length (x ∷ rest)) rest (omega arith)
