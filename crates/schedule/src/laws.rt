@@ -30,5 +30,4 @@ fn laws_hold()
     ensures round_trip { λ _. ⌜ Round-trip 60000 ⌝ }
     ensures nothing_lost { λ _. ⌜ Nothing-lost 256 ⌝ }
     ensures reading_ends { λ _. ⌜ Reading-ends 4 ⌝ }
-{
-}
+{}
