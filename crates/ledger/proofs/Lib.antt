@@ -1,0 +1,3 @@
+pub mod Perms
+pub mod Ordered
+pub mod Lawful

@@ -1,0 +1,4 @@
+pub mod Tests
+pub mod Keys
+pub mod Ledger
+pub mod Law

@@ -1,0 +1,8 @@
+-- The law, from the laws of the key's order. Assumes nothing.
+use Rattle.list_law.proofs.Lawful.{law}
+use Rattle.list_law.proofs.proved.every_run_is_lawful.Needs as need
+
+pub returns : need.returns
+returns g c =
+    law (g .K·Key .below) (record { irreflexive = g .K·Key·met .irreflexive; transitive = g .K·Key·met .transitive; same-transitive = g .K·Key·met .«same_transitive» })
+    (g .S·Scheme .table) (g .S·Scheme .strict) (g .S·Scheme .acts)

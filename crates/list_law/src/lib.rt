@@ -1,0 +1,3 @@
+// The singly linked index.
+pub mod law;
+mod proved;
