@@ -41,4 +41,5 @@ module _ {K M : Type 0} (below : K → K → Bool) (order : Total below) (table 
         did = did;
         told = refl;
       } in
-      (more r d, law below order table strict acts n w (happened below table lent c a ∷ es) s′ (more r d))
+      let lawful = law below order table strict acts n w (happened below table lent c a ∷ es) s′ (more r d) in
+      (more r d, lawful, lawful .answers .0)

@@ -11,7 +11,7 @@ use Rattle.basis.specs.declared.answer.Answer.{Answer}
 use Rattle.basis.specs.declared.answer.Answer.the-variants.{Refused}
 use Rattle.marks.specs.Meaning.{Table, Order}
 use Rattle.ledger.specs.Ledger.{Call}
-use Rattle.ledger.specs.Law.{Event, Run, Lawful}
+use Rattle.ledger.specs.Law.{Event, Run, Answers, Lawful, fed}
 use Rattle.list_law.specs.Call.{State, effect}
 use Rattle.list_law.specs.Law.{listIndex}
 
@@ -39,7 +39,8 @@ Begins below table strict acts n w s =
     (r : Run (listIndex below table strict acts) n w [] s) × Lawful below (listIndex below table strict acts) n w (limit n w) [] s r
 
 -- a call on what it was lent, with this answer and what it left: whatever run led to an index with this anchor and this scheme, whose
--- cells and rows are those lent or could be other ones, the run with this event leads to what the index then is, and is lawful
+-- cells and rows are those lent or could be other ones, the run with this event leads to what the index then is, and is lawful; and what
+-- the law says of an event holds of this one
 abbrev pub Continues : {K M : Type 0} → (K → K → Bool) → (M → Table) → Bool → (Order → M → M → Type 0) → State K M → Call K → Answer → State K M → Type 0
 Continues {K} {M} below table strict acts lent c a left =
     (n w : ℕ) (es : List (Event K)) (s : State K M) → Run (listIndex below table strict acts) n w es s →
@@ -49,3 +50,4 @@ Continues {K} {M} below table strict acts lent c a left =
     s′ .anchor ≡ left .anchor → s′ .marks ≡ left .marks →
     (r : Run (listIndex below table strict acts) n w (happened below table lent c a ∷ es) s′)
     × Lawful below (listIndex below table strict acts) n w (limit n w) (happened below table lent c a ∷ es) s′ r
+    × Answers below (listIndex below table strict acts) (fed below n es) s (happened below table lent c a) s′

@@ -5,3 +5,4 @@ pub mod Existence
 pub mod Performed
 pub mod Worked
 pub mod Continued
+pub mod Making

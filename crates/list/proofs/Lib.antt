@@ -1,0 +1,4 @@
+pub mod Viewed
+pub mod Walks
+pub mod Effects
+pub mod Makes

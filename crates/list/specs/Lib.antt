@@ -1,0 +1,5 @@
+pub mod Views
+pub mod Applied
+pub mod Turns
+pub mod Calls
+pub mod Chained

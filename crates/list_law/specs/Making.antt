@@ -1,0 +1,32 @@
+-- What making leaves. Assumes nothing.
+use mathlib.Core.Bool.{Bool, _&&_}
+use mathlib.Core.List.{List, [], _∷_}
+use Prim.Native.Nat.{ℕ, zero, suc}
+use lib.Dec.{leb, eqb}
+use lib.ListN.{length, replicate}
+use Rattle.std.specs.declared.option.Option.the-variants.{None}
+use Rattle.marks.specs.Meaning.{Order, release}
+use Rattle.list_law.specs.Call.{Cell, away, State}
+use Rattle.list_law.specs.Runs.{onward, chained}
+
+-- the sizes that making takes: 1 to 1,008 cells, sixteen rows, and a window of 1 to 64
+abbrev pub makes : ℕ → ℕ → ℕ → Bool
+makes cells rows window = leb 1 cells && leb cells 1008 && eqb rows 16 && leb 1 window && leb window 64
+
+-- releases of the seats from t on, so many
+abbrev pub releases-from : ℕ → ℕ → List Order
+releases-from t zero = []
+releases-from t (suc n) = release t ∷ releases-from (suc t) n
+
+-- all sixteen marks are released, one after another
+abbrev pub releases : List Order
+releases = releases-from 0 16
+
+-- an index over the given cells: all free and chained, keys as they were, sixteen seats away
+abbrev pub made-of : {K M : Type 0} → List (Cell K) → ℕ → M → State K M
+made-of given w marks = record {
+  cells = chained 0 given;
+  rows = replicate 16 away;
+  anchor = record { count = length given; window = w; head = None; free = onward 0 given };
+  marks = marks;
+}
