@@ -51,9 +51,9 @@ pub front-all : {K : Type 0} (count p : ℕ) (cs : List (Cell K)) → p + length
 front-all count p [] e = refl
 front-all count p (c ∷ cs) e = λ i. cell (c .key) (link cs e i) false ∷ front-all count (suc p) cs (omega arith) i
   where
-  link : (cs : List (Cell _)) → p + length (c ∷ cs) ≡ count → next-number p count ≡ onward (suc p) cs
-  link [] e = cond-false _ _ _ (le-ltb (p + 1) count (omega arith))
-  link (x ∷ cs) e = cond-true _ _ _ (lt-ltb (p + 1) count (omega arith)) ∙ ap Some (add-one p)
+    link : (cs : List (Cell _)) → p + length (c ∷ cs) ≡ count → next-number p count ≡ onward (suc p) cs
+    link [] e = cond-false _ _ _ (le-ltb (p + 1) count (omega arith))
+    link (x ∷ cs) e = cond-true _ _ _ (lt-ltb (p + 1) count (omega arith)) ∙ ap Some (add-one p)
 
 -- one release more
 pub releases-more : {S : Type 0} (acts : Order → S → S → Type 0) (t n : ℕ) (a b c : S) → Along acts (releases-from t n) a b → acts (release (t + n)) b c → Along acts (releases-from t (suc n)) a c

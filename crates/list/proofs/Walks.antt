@@ -29,16 +29,16 @@ module _ {K : Type 0} (below : K → K → Bool) (cells : List (Cell K)) (x : K)
   walk-ends lead link m h never e =
       stays m never ∙ ap (λ o. followed o (λ q k. walk below cells x (room - (i + 1)) (Some q) k)) e ∙ ap (λ n. walk below cells x n lead link) (sym (one-less h))
     where
-    stays : (m : declared.Met) → ((p : Place) (l : Option Place) → m ≡ Passed p l → ⊥) → met-of m ≡ followed (met-of m) (λ q k. walk below cells x (room - (i + 1)) (Some q) k)
-    stays Bad never = refl
-    stays (Passed p l) never = absurd (never p l refl)
-    stays (Present lead p l) never = refl
-    stays (Absent lead l) never = refl
+      stays : (m : declared.Met) → ((p : Place) (l : Option Place) → m ≡ Passed p l → ⊥) → met-of m ≡ followed (met-of m) (λ q k. walk below cells x (room - (i + 1)) (Some q) k)
+      stays Bad never = refl
+      stays (Passed p l) never = absurd (never p l refl)
+      stays (Present lead p l) never = refl
+      stays (Absent lead l) never = refl
 
   -- the last link
   pub walk-last : (lead : Option ℕ) (link : Link) → room ≤ i → look below cells x lead link ≡ walk below cells x (room - i) lead link
   unfolding walk
   walk-last lead link h = ap (λ n. walk below cells x n lead link) z
     where
-    z : 0 ≡ room - i
-    z = omega arith
+      z : 0 ≡ room - i
+      z = omega arith

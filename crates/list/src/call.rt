@@ -41,7 +41,11 @@ fn cells_fit<K: Key>(cells: &[Cell<K>], anchor: &Anchor) -> bool
     ensures { λ r. ⌜ r ≡ sizesFit (map cell-of (now (cells .entry))) (anchor-of (now (anchor .entry))) ⌝ }
 {
     let count = cells.len();
-    (1 <= count) & (count <= 1008) & (count == anchor.count as usize) & (1 <= anchor.window) & (anchor.window <= 64)
+    (1 <= count)
+        & (count <= 1008)
+        & (count == anchor.count as usize)
+        & (1 <= anchor.window)
+        & (anchor.window <= 64)
 }
 
 fn rows_fit<K: Key>(rows: &[Row<K>]) -> bool
@@ -57,7 +61,15 @@ fn level_fits(level: u8) -> bool
 }
 
 // The seat of a call that is not refused whatever its row is.
-fn admit<K: Key, S: Scheme>(cells: &[Cell<K>], rows: &[Row<K>], anchor: &Anchor, scheme: &S, seat: u8, level: u8, request: Request<K>) -> Result<Seat, Refusal>
+fn admit<K: Key, S: Scheme>(
+    cells: &[Cell<K>],
+    rows: &[Row<K>],
+    anchor: &Anchor,
+    scheme: &S,
+    seat: u8,
+    level: u8,
+    request: Request<K>,
+) -> Result<Seat, Refusal>
     ensures { λ r. ⌜ Cases r (λ t. (t .number ≡ seat) × (first (refusals (state-of (now (cells .entry)) (now (rows .entry)) (now (anchor .entry)) (now (scheme .entry))) (call-of (what-of request) seat level (now (cells .entry)) (now (rows .entry)))) ≡ None)) (λ e. first (refusals (state-of (now (cells .entry)) (now (rows .entry)) (now (anchor .entry)) (now (scheme .entry))) (call-of (what-of request) seat level (now (cells .entry)) (now (rows .entry)))) ≡ Some e) ⌝ }
 {
     let Some(taken) = seat_of(seat) else {
@@ -76,7 +88,15 @@ fn admit<K: Key, S: Scheme>(cells: &[Cell<K>], rows: &[Row<K>], anchor: &Anchor,
 }
 
 // One call, whatever is asked. The mask is raised before anything is looked at, and the guard puts the level back on every way out.
-pub(crate) fn make_call<K: Key, S: Scheme>(cells: &mut [Cell<K>], rows: &mut [Row<K>], anchor: &mut Anchor, scheme: &mut S, mask: &mut Mask, seat: u8, request: Request<K>) -> Answer
+pub(crate) fn make_call<K: Key, S: Scheme>(
+    cells: &mut [Cell<K>],
+    rows: &mut [Row<K>],
+    anchor: &mut Anchor,
+    scheme: &mut S,
+    mask: &mut Mask,
+    seat: u8,
+    request: Request<K>,
+) -> Answer
     ensures did { λ r. ⌜ Did (K·Key .below) (S·Scheme .table) (S·Scheme .strict) (S·Scheme .acts) (state-of (now (cells .entry)) (now (rows .entry)) (now (anchor .entry)) (now (scheme .entry))) (call-of (what-of request) seat (now (mask .entry) .level) (now (cells .entry)) (now (rows .entry))) r (state-of (now (cells .exit)) (now (rows .exit)) (now (anchor .exit)) (now (scheme .exit))) ⌝ }
     ensures level { λ _. ⌜ now (mask .exit) .level ≡ now (mask .entry) .level ⌝ }
     ensures runs { λ r. ⌜ Continues (K·Key .below) (S·Scheme .table) (S·Scheme .strict) (S·Scheme .acts) (state-of (now (cells .entry)) (now (rows .entry)) (now (anchor .entry)) (now (scheme .entry))) (call-of (what-of request) seat (now (mask .entry) .level) (now (cells .entry)) (now (rows .entry))) r (state-of (now (cells .exit)) (now (rows .exit)) (now (anchor .exit)) (now (scheme .exit))) ⌝ }

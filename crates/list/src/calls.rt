@@ -1,4 +1,4 @@
-// The five calls, by plain seat number.
+// The calls, by plain seat number. Abandon is not offered to other crates yet.
 ghost use mathlib.Core.Path.{_≡_};
 ghost use Rattle.list.specs.Turns.{what-of};
 ghost use Rattle.list_law.specs.Call.{Did};
@@ -17,7 +17,14 @@ use keys::key::Key;
 use marks::scheme::Scheme;
 
 // A seat that is away becomes idle.
-pub fn join<K: Key, S: Scheme>(cells: &mut [Cell<K>], rows: &mut [Row<K>], anchor: &mut Anchor, scheme: &mut S, mask: &mut Mask, seat: u8) -> Answer
+pub fn join<K: Key, S: Scheme>(
+    cells: &mut [Cell<K>],
+    rows: &mut [Row<K>],
+    anchor: &mut Anchor,
+    scheme: &mut S,
+    mask: &mut Mask,
+    seat: u8,
+) -> Answer
     ensures did { λ r. ⌜ Did (K·Key .below) (S·Scheme .table) (S·Scheme .strict) (S·Scheme .acts) (state-of (now (cells .entry)) (now (rows .entry)) (now (anchor .entry)) (now (scheme .entry))) (call-of (what-of Request.Join) seat (now (mask .entry) .level) (now (cells .entry)) (now (rows .entry))) r (state-of (now (cells .exit)) (now (rows .exit)) (now (anchor .exit)) (now (scheme .exit))) ⌝ }
     ensures level { λ _. ⌜ now (mask .exit) .level ≡ now (mask .entry) .level ⌝ }
     ensures runs { λ r. ⌜ Continues (K·Key .below) (S·Scheme .table) (S·Scheme .strict) (S·Scheme .acts) (state-of (now (cells .entry)) (now (rows .entry)) (now (anchor .entry)) (now (scheme .entry))) (call-of (what-of Request.Join) seat (now (mask .entry) .level) (now (cells .entry)) (now (rows .entry))) r (state-of (now (cells .exit)) (now (rows .exit)) (now (anchor .exit)) (now (scheme .exit))) ⌝ }
@@ -26,7 +33,14 @@ pub fn join<K: Key, S: Scheme>(cells: &mut [Cell<K>], rows: &mut [Row<K>], ancho
 }
 
 // A seat becomes away, and its mark is released.
-pub fn leave<K: Key, S: Scheme>(cells: &mut [Cell<K>], rows: &mut [Row<K>], anchor: &mut Anchor, scheme: &mut S, mask: &mut Mask, seat: u8) -> Answer
+pub fn leave<K: Key, S: Scheme>(
+    cells: &mut [Cell<K>],
+    rows: &mut [Row<K>],
+    anchor: &mut Anchor,
+    scheme: &mut S,
+    mask: &mut Mask,
+    seat: u8,
+) -> Answer
     ensures did { λ r. ⌜ Did (K·Key .below) (S·Scheme .table) (S·Scheme .strict) (S·Scheme .acts) (state-of (now (cells .entry)) (now (rows .entry)) (now (anchor .entry)) (now (scheme .entry))) (call-of (what-of Request.Leave) seat (now (mask .entry) .level) (now (cells .entry)) (now (rows .entry))) r (state-of (now (cells .exit)) (now (rows .exit)) (now (anchor .exit)) (now (scheme .exit))) ⌝ }
     ensures level { λ _. ⌜ now (mask .exit) .level ≡ now (mask .entry) .level ⌝ }
     ensures runs { λ r. ⌜ Continues (K·Key .below) (S·Scheme .table) (S·Scheme .strict) (S·Scheme .acts) (state-of (now (cells .entry)) (now (rows .entry)) (now (anchor .entry)) (now (scheme .entry))) (call-of (what-of Request.Leave) seat (now (mask .entry) .level) (now (cells .entry)) (now (rows .entry))) r (state-of (now (cells .exit)) (now (rows .exit)) (now (anchor .exit)) (now (scheme .exit))) ⌝ }
@@ -35,16 +49,40 @@ pub fn leave<K: Key, S: Scheme>(cells: &mut [Cell<K>], rows: &mut [Row<K>], anch
 }
 
 // An idle seat begins an operation on a target.
-pub fn begin<K: Key, S: Scheme>(cells: &mut [Cell<K>], rows: &mut [Row<K>], anchor: &mut Anchor, scheme: &mut S, mask: &mut Mask, seat: u8, kind: Kind, target: K) -> Answer
+pub fn begin<K: Key, S: Scheme>(
+    cells: &mut [Cell<K>],
+    rows: &mut [Row<K>],
+    anchor: &mut Anchor,
+    scheme: &mut S,
+    mask: &mut Mask,
+    seat: u8,
+    kind: Kind,
+    target: K,
+) -> Answer
     ensures did { λ r. ⌜ Did (K·Key .below) (S·Scheme .table) (S·Scheme .strict) (S·Scheme .acts) (state-of (now (cells .entry)) (now (rows .entry)) (now (anchor .entry)) (now (scheme .entry))) (call-of (what-of (Request.Begin kind target)) seat (now (mask .entry) .level) (now (cells .entry)) (now (rows .entry))) r (state-of (now (cells .exit)) (now (rows .exit)) (now (anchor .exit)) (now (scheme .exit))) ⌝ }
     ensures level { λ _. ⌜ now (mask .exit) .level ≡ now (mask .entry) .level ⌝ }
     ensures runs { λ r. ⌜ Continues (K·Key .below) (S·Scheme .table) (S·Scheme .strict) (S·Scheme .acts) (state-of (now (cells .entry)) (now (rows .entry)) (now (anchor .entry)) (now (scheme .entry))) (call-of (what-of (Request.Begin kind target)) seat (now (mask .entry) .level) (now (cells .entry)) (now (rows .entry))) r (state-of (now (cells .exit)) (now (rows .exit)) (now (anchor .exit)) (now (scheme .exit))) ⌝ }
 {
-    make_call(cells, rows, anchor, scheme, mask, seat, Request::Begin { kind, target })
+    make_call(
+        cells,
+        rows,
+        anchor,
+        scheme,
+        mask,
+        seat,
+        Request::Begin { kind, target },
+    )
 }
 
 // A running seat runs one window.
-pub fn step<K: Key, S: Scheme>(cells: &mut [Cell<K>], rows: &mut [Row<K>], anchor: &mut Anchor, scheme: &mut S, mask: &mut Mask, seat: u8) -> Answer
+pub fn step<K: Key, S: Scheme>(
+    cells: &mut [Cell<K>],
+    rows: &mut [Row<K>],
+    anchor: &mut Anchor,
+    scheme: &mut S,
+    mask: &mut Mask,
+    seat: u8,
+) -> Answer
     ensures did { λ r. ⌜ Did (K·Key .below) (S·Scheme .table) (S·Scheme .strict) (S·Scheme .acts) (state-of (now (cells .entry)) (now (rows .entry)) (now (anchor .entry)) (now (scheme .entry))) (call-of (what-of Request.Step) seat (now (mask .entry) .level) (now (cells .entry)) (now (rows .entry))) r (state-of (now (cells .exit)) (now (rows .exit)) (now (anchor .exit)) (now (scheme .exit))) ⌝ }
     ensures level { λ _. ⌜ now (mask .exit) .level ≡ now (mask .entry) .level ⌝ }
     ensures runs { λ r. ⌜ Continues (K·Key .below) (S·Scheme .table) (S·Scheme .strict) (S·Scheme .acts) (state-of (now (cells .entry)) (now (rows .entry)) (now (anchor .entry)) (now (scheme .entry))) (call-of (what-of Request.Step) seat (now (mask .entry) .level) (now (cells .entry)) (now (rows .entry))) r (state-of (now (cells .exit)) (now (rows .exit)) (now (anchor .exit)) (now (scheme .exit))) ⌝ }
@@ -53,7 +91,14 @@ pub fn step<K: Key, S: Scheme>(cells: &mut [Cell<K>], rows: &mut [Row<K>], ancho
 }
 
 // A running seat drops its operation, and its mark is released.
-pub fn abandon<K: Key, S: Scheme>(cells: &mut [Cell<K>], rows: &mut [Row<K>], anchor: &mut Anchor, scheme: &mut S, mask: &mut Mask, seat: u8) -> Answer
+pub(crate) fn abandon<K: Key, S: Scheme>(
+    cells: &mut [Cell<K>],
+    rows: &mut [Row<K>],
+    anchor: &mut Anchor,
+    scheme: &mut S,
+    mask: &mut Mask,
+    seat: u8,
+) -> Answer
     ensures did { λ r. ⌜ Did (K·Key .below) (S·Scheme .table) (S·Scheme .strict) (S·Scheme .acts) (state-of (now (cells .entry)) (now (rows .entry)) (now (anchor .entry)) (now (scheme .entry))) (call-of (what-of Request.Abandon) seat (now (mask .entry) .level) (now (cells .entry)) (now (rows .entry))) r (state-of (now (cells .exit)) (now (rows .exit)) (now (anchor .exit)) (now (scheme .exit))) ⌝ }
     ensures level { λ _. ⌜ now (mask .exit) .level ≡ now (mask .entry) .level ⌝ }
     ensures runs { λ r. ⌜ Continues (K·Key .below) (S·Scheme .table) (S·Scheme .strict) (S·Scheme .acts) (state-of (now (cells .entry)) (now (rows .entry)) (now (anchor .entry)) (now (scheme .entry))) (call-of (what-of Request.Abandon) seat (now (mask .entry) .level) (now (cells .entry)) (now (rows .entry))) r (state-of (now (cells .exit)) (now (rows .exit)) (now (anchor .exit)) (now (scheme .exit))) ⌝ }

@@ -1,19 +1,23 @@
 // Making: the cells are chained up free, the rows and the anchor are set, and all marks are released.
 ghost use mathlib.Core.Path.{_≡_};
 ghost use mathlib.Core.List.{map};
-ghost use Prim.Native.Nat.{suc, _<_, _≤_};
+ghost use Prim.Native.Nat.{_<_, _≤_};
 ghost use lib.ListN.{length, replicate};
 ghost use Rattle.marks.specs.Marks.{numbered};
 ghost use Rattle.marks.specs.Meaning.{Along};
 ghost use Rattle.list_law.specs.Call.{away, Obeys};
-ghost use Rattle.list_law.specs.Runs.{onward, chained};
-ghost use Rattle.list_law.specs.Making.{releases, releases-from};
-ghost use Rattle.list.specs.Views.{cell-of, row-of};
-ghost use Rattle.list.specs.Chained.{next-number};
+ghost use Rattle.list_law.specs.Runs.{chained};
+ghost use Rattle.list_law.specs.Making.{makes, releases, Makes};
+ghost use Rattle.list.specs.Views.{cell-of, row-of, anchor-of};
+ghost use Rattle.list.specs.Chained.{next-number, fresh};
+ghost use Rattle.list.specs.Applied.{state-of};
+use crate::cell::Anchor;
 use crate::cell::Cell;
 use crate::row::Doing;
 use crate::row::Row;
+use basis::answer::Answer;
 use basis::place::Place;
+use basis::refusal::Refusal;
 use basis::seat::Seat;
 use keys::key::Key;
 use marks::scheme::Scheme;
@@ -72,4 +76,45 @@ fn release_all<S: Scheme>(scheme: &mut S)
     for number in 0..16u8 {
         scheme.release(known_seat(number));
     }
+}
+
+// The sizes that making takes.
+fn sizes_fit(cells: usize, rows: usize, window: u8) -> bool
+    ensures { λ r. ⌜ r ≡ makes cells rows window ⌝ }
+{
+    (1 <= cells) & (cells <= 1008) & (rows == 16) & (1 <= window) & (window <= 64)
+}
+
+// The anchor of an index that is just made over so many cells.
+fn fresh_anchor(count: usize, window: u8) -> Anchor
+    requires { ⌜ count ≤ 1008 ⌝ }
+    ensures { λ r. ⌜ anchor-of r ≡ fresh count window ⌝ }
+{
+    Anchor {
+        count: count as u16,
+        window,
+        head: None,
+        free: Place::new(0).ok(),
+    }
+}
+
+// Makes an index over the lent cells, or refuses their sizes. It runs before any task does, so it raises no mask.
+pub fn make<K: Key, S: Scheme>(
+    cells: &mut [Cell<K>],
+    rows: &mut [Row<K>],
+    anchor: &mut Anchor,
+    scheme: &mut S,
+    window: u8,
+) -> Answer
+    ensures { λ r. ⌜ Makes (K·Key .below) (S·Scheme .table) (S·Scheme .strict) (S·Scheme .acts) (state-of (now (cells .entry)) (now (rows .entry)) (now (anchor .entry)) (now (scheme .entry))) window r (state-of (now (cells .exit)) (now (rows .exit)) (now (anchor .exit)) (now (scheme .exit))) ⌝ }
+{
+    let count = cells.len();
+    if !sizes_fit(count, rows.len(), window) {
+        return Answer::Refused(Refusal::WrongSizes);
+    }
+    free_cells(cells);
+    clear_rows(rows);
+    release_all(scheme);
+    *anchor = fresh_anchor(count, window);
+    Answer::Ok
 }

@@ -44,7 +44,12 @@ fn put_flag<K: Key>(cells: &mut [Cell<K>], place: Place, listed: bool)
 }
 
 // The link behind a place, or the head link, is set.
-pub fn set_lead<K: Key>(cells: &mut [Cell<K>], anchor: &mut Anchor, lead: Option<Place>, link: Option<Place>)
+pub fn set_lead<K: Key>(
+    cells: &mut [Cell<K>],
+    anchor: &mut Anchor,
+    lead: Option<Place>,
+    link: Option<Place>,
+)
     ensures memory { λ _. ⌜ memory-of (now (cells .exit)) (now (anchor .exit)) ≡ leadingSet (numbered lead) (numbered link) (memory-of (now (cells .entry)) (now (anchor .entry))) ⌝ }
     ensures sizes { λ _. ⌜ Same-sizes (now (anchor .entry)) (now (anchor .exit)) ⌝ }
 {
@@ -65,7 +70,13 @@ pub fn free_cell<K: Key>(cells: &mut [Cell<K>], anchor: &mut Anchor, place: Plac
 }
 
 // The cell at a place leaves the list: the link that led to it gets the cell's own, and the cell becomes free.
-pub fn unlink<K: Key>(cells: &mut [Cell<K>], anchor: &mut Anchor, lead: Option<Place>, place: Place, link: Option<Place>)
+pub fn unlink<K: Key>(
+    cells: &mut [Cell<K>],
+    anchor: &mut Anchor,
+    lead: Option<Place>,
+    place: Place,
+    link: Option<Place>,
+)
     ensures memory { λ _. ⌜ memory-of (now (cells .exit)) (now (anchor .exit)) ≡ removed (numbered lead) (place .number) (numbered link) (memory-of (now (cells .entry)) (now (anchor .entry))) ⌝ }
     ensures sizes { λ _. ⌜ Same-sizes (now (anchor .entry)) (now (anchor .exit)) ⌝ }
 {
@@ -74,7 +85,15 @@ pub fn unlink<K: Key>(cells: &mut [Cell<K>], anchor: &mut Anchor, lead: Option<P
 }
 
 // The front free cell leaves the free chain, which goes on at `rest`, takes key, link and flag, and is linked to.
-pub fn link_in<K: Key>(cells: &mut [Cell<K>], anchor: &mut Anchor, lead: Option<Place>, link: Option<Place>, key: K, place: Place, rest: Option<Place>)
+pub fn link_in<K: Key>(
+    cells: &mut [Cell<K>],
+    anchor: &mut Anchor,
+    lead: Option<Place>,
+    link: Option<Place>,
+    key: K,
+    place: Place,
+    rest: Option<Place>,
+)
     ensures memory { λ _. ⌜ memory-of (now (cells .exit)) (now (anchor .exit)) ≡ inserted (numbered lead) (numbered link) key (place .number) (numbered rest) (memory-of (now (cells .entry)) (now (anchor .entry))) ⌝ }
     ensures sizes { λ _. ⌜ Same-sizes (now (anchor .entry)) (now (anchor .exit)) ⌝ }
 {

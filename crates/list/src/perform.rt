@@ -22,7 +22,15 @@ use keys::key::Key;
 use marks::scheme::Scheme;
 
 // The row becomes another one, with or without a release of the seat's mark.
-fn change_row<K: Key, S: Scheme>(cells: &[Cell<K>], rows: &mut [Row<K>], anchor: &Anchor, scheme: &mut S, seat: Seat, doing: Doing<K>, releases: bool) -> Answer
+fn change_row<K: Key, S: Scheme>(
+    cells: &[Cell<K>],
+    rows: &mut [Row<K>],
+    anchor: &Anchor,
+    scheme: &mut S,
+    seat: Seat,
+    doing: Doing<K>,
+    releases: bool,
+) -> Answer
     ensures { λ r. ⌜ Applied (S·Scheme .table) (S·Scheme .strict) (S·Scheme .acts) (seat .number) (turnEffect (K·Key .below) (memory-of (now (cells .entry)) (now (anchor .entry))) (seat .number) (now (anchor .entry) .window) (S·Scheme .table (now (scheme .entry)) (seat .number)) (turn-of (seat .number) (Turn.Becomes doing releases))) (state-of (now (cells .entry)) (now (rows .entry)) (now (anchor .entry)) (now (scheme .entry))) r (state-of (now (cells .entry)) (now (rows .exit)) (now (anchor .entry)) (now (scheme .exit))) ⌝ }
 {
     put_row(rows, seat, doing);
@@ -33,13 +41,29 @@ fn change_row<K: Key, S: Scheme>(cells: &[Cell<K>], rows: &mut [Row<K>], anchor:
 }
 
 // What a request of a seat does, by its row.
-pub fn perform<K: Key, S: Scheme>(guard: &Guard, cells: &mut [Cell<K>], rows: &mut [Row<K>], anchor: &mut Anchor, scheme: &mut S, seat: Seat, request: Request<K>) -> Answer
+pub fn perform<K: Key, S: Scheme>(
+    guard: &Guard,
+    cells: &mut [Cell<K>],
+    rows: &mut [Row<K>],
+    anchor: &mut Anchor,
+    scheme: &mut S,
+    seat: Seat,
+    request: Request<K>,
+) -> Answer
     requires { ⌜ now (now guard .mask) .level ≡ 7 ⌝ }
     ensures { λ r. ⌜ Applied (S·Scheme .table) (S·Scheme .strict) (S·Scheme .acts) (seat .number) (turnEffect (K·Key .below) (memory-of (now (cells .entry)) (now (anchor .entry))) (seat .number) (now (anchor .entry) .window) (S·Scheme .table (now (scheme .entry)) (seat .number)) (turn (seat .number) (rowAt (map row-of (now (rows .entry))) (seat .number)) (what-of request))) (state-of (now (cells .entry)) (now (rows .entry)) (now (anchor .entry)) (now (scheme .entry))) r (state-of (now (cells .exit)) (now (rows .exit)) (now (anchor .exit)) (now (scheme .exit))) ⌝ }
 {
     match turn_at(seat, row_at(rows, seat), request) {
         Turn::Refuses(refusal) => Answer::Refused(refusal),
-        Turn::Becomes { doing, releases } => change_row(cells, rows, anchor, scheme, seat, doing, releases),
+        Turn::Becomes { doing, releases } => change_row(
+            cells,
+            rows,
+            anchor,
+            scheme,
+            seat,
+            doing,
+            releases,
+        ),
         Turn::Runs { kind, target } => run_window(cells, rows, anchor, scheme, seat, kind, target),
     }
 }

@@ -17,11 +17,21 @@ pub enum Met {
     // No cell, or a free one.
     Bad,
     // A cell whose key is below the target.
-    Passed { place: Place, link: Option<Place> },
+    Passed {
+        place: Place,
+        link: Option<Place>,
+    },
     // The target, its link, and the place before; none is the head.
-    Present { lead: Option<Place>, place: Place, link: Option<Place> },
+    Present {
+        lead: Option<Place>,
+        place: Place,
+        link: Option<Place>,
+    },
     // The target is missing: the place before, and the link that led on from there.
-    Absent { lead: Option<Place>, link: Option<Place> },
+    Absent {
+        lead: Option<Place>,
+        link: Option<Place>,
+    },
 }
 
 // The cell at a place, if there is one.
@@ -68,7 +78,13 @@ fn follow<K: Key>(cells: &[Cell<K>], target: K, lead: Option<Place>, link: Optio
 }
 
 // Links followed past up to `room` cells; one more that is below the target ends the window there.
-fn walk_links<K: Key>(cells: &[Cell<K>], target: K, room: u8, lead: Option<Place>, link: Option<Place>) -> Met
+fn walk_links<K: Key>(
+    cells: &[Cell<K>],
+    target: K,
+    room: u8,
+    lead: Option<Place>,
+    link: Option<Place>,
+) -> Met
     ensures { λ r. ⌜ met-of r ≡ walk (K·Key .below) (map cell-of (now (cells .entry))) target room (numbered lead) (numbered link) ⌝ }
 {
     let mut lead = lead;
@@ -86,7 +102,13 @@ fn walk_links<K: Key>(cells: &[Cell<K>], target: K, room: u8, lead: Option<Place
 }
 
 // The walk of a window: from behind the marked cell, which must be a listed one, or from the head.
-pub fn walk_from<K: Key>(cells: &[Cell<K>], head: Option<Place>, target: K, room: u8, mark: Option<Place>) -> Met
+pub fn walk_from<K: Key>(
+    cells: &[Cell<K>],
+    head: Option<Place>,
+    target: K,
+    room: u8,
+    mark: Option<Place>,
+) -> Met
     ensures { λ r. ⌜ met-of r ≡ walked (K·Key .below) (map cell-of (now (cells .entry))) (numbered head) target room (numbered mark) ⌝ }
 {
     let Some(place) = mark else {

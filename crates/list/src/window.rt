@@ -24,7 +24,14 @@ use keys::key::Key;
 use marks::scheme::Scheme;
 
 // The operation has its answer: the row becomes idle, and the mark is released.
-fn end_operation<K: Key, S: Scheme>(cells: &[Cell<K>], rows: &mut [Row<K>], anchor: &Anchor, scheme: &mut S, seat: Seat, answer: Answer) -> Answer
+fn end_operation<K: Key, S: Scheme>(
+    cells: &[Cell<K>],
+    rows: &mut [Row<K>],
+    anchor: &Anchor,
+    scheme: &mut S,
+    seat: Seat,
+    answer: Answer,
+) -> Answer
     ensures { λ r. ⌜ Applied (S·Scheme .table) (S·Scheme .strict) (S·Scheme .acts) (seat .number) (ended (seat .number) answer (memory-of (now (cells .entry)) (now (anchor .entry)))) (state-of (now (cells .entry)) (now (rows .entry)) (now (anchor .entry)) (now (scheme .entry))) r (state-of (now (cells .entry)) (now (rows .exit)) (now (anchor .entry)) (now (scheme .exit))) ⌝ }
 {
     scheme.release(seat);
@@ -33,7 +40,14 @@ fn end_operation<K: Key, S: Scheme>(cells: &[Cell<K>], rows: &mut [Row<K>], anch
 }
 
 // The window is used up at a place, which the seat marks.
-fn wait_at<K: Key, S: Scheme>(cells: &[Cell<K>], rows: &[Row<K>], anchor: &Anchor, scheme: &mut S, seat: Seat, place: Place) -> Answer
+fn wait_at<K: Key, S: Scheme>(
+    cells: &[Cell<K>],
+    rows: &[Row<K>],
+    anchor: &Anchor,
+    scheme: &mut S,
+    seat: Seat,
+    place: Place,
+) -> Answer
     ensures { λ r. ⌜ Applied (S·Scheme .table) (S·Scheme .strict) (S·Scheme .acts) (seat .number) (waiting (seat .number) (place .number) (memory-of (now (cells .entry)) (now (anchor .entry)))) (state-of (now (cells .entry)) (now (rows .entry)) (now (anchor .entry)) (now (scheme .entry))) r (state-of (now (cells .entry)) (now (rows .entry)) (now (anchor .entry)) (now (scheme .exit))) ⌝ }
 {
     scheme.release(seat);
@@ -42,7 +56,16 @@ fn wait_at<K: Key, S: Scheme>(cells: &[Cell<K>], rows: &[Row<K>], anchor: &Ancho
 }
 
 // The cell at a place is removed: it is unlinked and freed, the marks on it are revoked, and the operation has its answer.
-fn remove_at<K: Key, S: Scheme>(cells: &mut [Cell<K>], rows: &mut [Row<K>], anchor: &mut Anchor, scheme: &mut S, seat: Seat, lead: Option<Place>, place: Place, link: Option<Place>) -> Answer
+fn remove_at<K: Key, S: Scheme>(
+    cells: &mut [Cell<K>],
+    rows: &mut [Row<K>],
+    anchor: &mut Anchor,
+    scheme: &mut S,
+    seat: Seat,
+    lead: Option<Place>,
+    place: Place,
+    link: Option<Place>,
+) -> Answer
     ensures { λ r. ⌜ Applied (S·Scheme .table) (S·Scheme .strict) (S·Scheme .acts) (seat .number) (unlinked (seat .number) (numbered lead) (place .number) (numbered link) (memory-of (now (cells .entry)) (now (anchor .entry)))) (state-of (now (cells .entry)) (now (rows .entry)) (now (anchor .entry)) (now (scheme .entry))) r (state-of (now (cells .exit)) (now (rows .exit)) (now (anchor .exit)) (now (scheme .exit))) ⌝ }
 {
     unlink(cells, anchor, lead, place, link);
@@ -53,7 +76,16 @@ fn remove_at<K: Key, S: Scheme>(cells: &mut [Cell<K>], rows: &mut [Row<K>], anch
 }
 
 // The front free cell takes the target, where there is one: its key, the link that led on, and a link to it from the place before.
-fn insert_at<K: Key, S: Scheme>(cells: &mut [Cell<K>], rows: &mut [Row<K>], anchor: &mut Anchor, scheme: &mut S, seat: Seat, target: K, lead: Option<Place>, link: Option<Place>) -> Answer
+fn insert_at<K: Key, S: Scheme>(
+    cells: &mut [Cell<K>],
+    rows: &mut [Row<K>],
+    anchor: &mut Anchor,
+    scheme: &mut S,
+    seat: Seat,
+    target: K,
+    lead: Option<Place>,
+    link: Option<Place>,
+) -> Answer
     ensures { λ r. ⌜ Applied (S·Scheme .table) (S·Scheme .strict) (S·Scheme .acts) (seat .number) (takenFrom target (seat .number) (numbered lead) (numbered link) (memory-of (now (cells .entry)) (now (anchor .entry))) (numbered (now (anchor .entry) .free))) (state-of (now (cells .entry)) (now (rows .entry)) (now (anchor .entry)) (now (scheme .entry))) r (state-of (now (cells .exit)) (now (rows .exit)) (now (anchor .exit)) (now (scheme .exit))) ⌝ }
 {
     let Some(place) = anchor.free else {
@@ -70,7 +102,17 @@ fn insert_at<K: Key, S: Scheme>(cells: &mut [Cell<K>], rows: &mut [Row<K>], anch
 }
 
 // The target is there.
-fn on_present<K: Key, S: Scheme>(cells: &mut [Cell<K>], rows: &mut [Row<K>], anchor: &mut Anchor, scheme: &mut S, seat: Seat, kind: Kind, lead: Option<Place>, place: Place, link: Option<Place>) -> Answer
+fn on_present<K: Key, S: Scheme>(
+    cells: &mut [Cell<K>],
+    rows: &mut [Row<K>],
+    anchor: &mut Anchor,
+    scheme: &mut S,
+    seat: Seat,
+    kind: Kind,
+    lead: Option<Place>,
+    place: Place,
+    link: Option<Place>,
+) -> Answer
     ensures { λ r. ⌜ Applied (S·Scheme .table) (S·Scheme .strict) (S·Scheme .acts) (seat .number) (onPresent kind (seat .number) (numbered lead) (place .number) (numbered link) (memory-of (now (cells .entry)) (now (anchor .entry)))) (state-of (now (cells .entry)) (now (rows .entry)) (now (anchor .entry)) (now (scheme .entry))) r (state-of (now (cells .exit)) (now (rows .exit)) (now (anchor .exit)) (now (scheme .exit))) ⌝ }
 {
     match kind {
@@ -81,7 +123,17 @@ fn on_present<K: Key, S: Scheme>(cells: &mut [Cell<K>], rows: &mut [Row<K>], anc
 }
 
 // The target is missing.
-fn on_absent<K: Key, S: Scheme>(cells: &mut [Cell<K>], rows: &mut [Row<K>], anchor: &mut Anchor, scheme: &mut S, seat: Seat, kind: Kind, target: K, lead: Option<Place>, link: Option<Place>) -> Answer
+fn on_absent<K: Key, S: Scheme>(
+    cells: &mut [Cell<K>],
+    rows: &mut [Row<K>],
+    anchor: &mut Anchor,
+    scheme: &mut S,
+    seat: Seat,
+    kind: Kind,
+    target: K,
+    lead: Option<Place>,
+    link: Option<Place>,
+) -> Answer
     ensures { λ r. ⌜ Applied (S·Scheme .table) (S·Scheme .strict) (S·Scheme .acts) (seat .number) (onAbsent kind target (seat .number) (numbered lead) (numbered link) (memory-of (now (cells .entry)) (now (anchor .entry)))) (state-of (now (cells .entry)) (now (rows .entry)) (now (anchor .entry)) (now (scheme .entry))) r (state-of (now (cells .exit)) (now (rows .exit)) (now (anchor .exit)) (now (scheme .exit))) ⌝ }
 {
     match kind {
@@ -92,14 +144,43 @@ fn on_absent<K: Key, S: Scheme>(cells: &mut [Cell<K>], rows: &mut [Row<K>], anch
 }
 
 // What a window does, by where its walk ended.
-fn decide<K: Key, S: Scheme>(cells: &mut [Cell<K>], rows: &mut [Row<K>], anchor: &mut Anchor, scheme: &mut S, seat: Seat, kind: Kind, target: K, met: Met) -> Answer
+fn decide<K: Key, S: Scheme>(
+    cells: &mut [Cell<K>],
+    rows: &mut [Row<K>],
+    anchor: &mut Anchor,
+    scheme: &mut S,
+    seat: Seat,
+    kind: Kind,
+    target: K,
+    met: Met,
+) -> Answer
     ensures { λ r. ⌜ Applied (S·Scheme .table) (S·Scheme .strict) (S·Scheme .acts) (seat .number) (decided kind target (seat .number) (memory-of (now (cells .entry)) (now (anchor .entry))) (met-of met)) (state-of (now (cells .entry)) (now (rows .entry)) (now (anchor .entry)) (now (scheme .entry))) r (state-of (now (cells .exit)) (now (rows .exit)) (now (anchor .exit)) (now (scheme .exit))) ⌝ }
 {
     match met {
         Met::Bad => Answer::Refused(Refusal::BadLink),
         Met::Passed { place, link: _ } => wait_at(cells, rows, anchor, scheme, seat, place),
-        Met::Present { lead, place, link } => on_present(cells, rows, anchor, scheme, seat, kind, lead, place, link),
-        Met::Absent { lead, link } => on_absent(cells, rows, anchor, scheme, seat, kind, target, lead, link),
+        Met::Present { lead, place, link } => on_present(
+            cells,
+            rows,
+            anchor,
+            scheme,
+            seat,
+            kind,
+            lead,
+            place,
+            link,
+        ),
+        Met::Absent { lead, link } => on_absent(
+            cells,
+            rows,
+            anchor,
+            scheme,
+            seat,
+            kind,
+            target,
+            lead,
+            link,
+        ),
     }
 }
 
@@ -111,7 +192,15 @@ fn width(seat: Seat, window: u8, mark: Option<Place>) -> u8
 }
 
 // One window of a running seat.
-pub fn run_window<K: Key, S: Scheme>(cells: &mut [Cell<K>], rows: &mut [Row<K>], anchor: &mut Anchor, scheme: &mut S, seat: Seat, kind: Kind, target: K) -> Answer
+pub fn run_window<K: Key, S: Scheme>(
+    cells: &mut [Cell<K>],
+    rows: &mut [Row<K>],
+    anchor: &mut Anchor,
+    scheme: &mut S,
+    seat: Seat,
+    kind: Kind,
+    target: K,
+) -> Answer
     ensures { λ r. ⌜ Applied (S·Scheme .table) (S·Scheme .strict) (S·Scheme .acts) (seat .number) (window (K·Key .below) (memory-of (now (cells .entry)) (now (anchor .entry))) (seat .number) (now (anchor .entry) .window) (S·Scheme .table (now (scheme .entry)) (seat .number)) kind target) (state-of (now (cells .entry)) (now (rows .entry)) (now (anchor .entry)) (now (scheme .entry))) r (state-of (now (cells .exit)) (now (rows .exit)) (now (anchor .exit)) (now (scheme .exit))) ⌝ }
 {
     let mark = scheme.get(seat);

@@ -19,3 +19,4 @@ pub mod Existence
 pub mod Performed
 pub mod Worked
 pub mod Continued
+pub mod Made

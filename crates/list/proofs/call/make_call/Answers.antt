@@ -13,7 +13,7 @@ use Rattle.list.proofs.call.make_call.Given as given
 use Rattle.list.proofs.call.make_call.Needs as need
 
 pub returns-in-Err : need.returns-in-Err
-returns-in-Err g c = 
+returns-in-Err g c =
     let key = g .K·Key·met in
     let order : Total (g .K·Key .below) = record { irreflexive = key .irreflexive; transitive = key .transitive; same-transitive = key .«same_transitive» } in
     let lent = state-of (c .args .cells .now) (c .args .rows .now) (c .args .anchor .now) (c .args .scheme .now) in
