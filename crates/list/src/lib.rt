@@ -2,7 +2,7 @@
 mod call;
 pub mod calls;
 pub mod cell;
-mod making;
+pub mod making;
 mod memory;
 mod perform;
 pub mod row;

@@ -1,11 +1,12 @@
 // Making: the cells are chained up free, the rows and the anchor are set, and all marks are released.
 ghost use mathlib.Core.Path.{_≡_};
+ghost use mathlib.Core.Bool.{false};
 ghost use mathlib.Core.List.{map};
 ghost use Prim.Native.Nat.{_<_, _≤_};
 ghost use lib.ListN.{length, replicate};
 ghost use Rattle.marks.specs.Marks.{numbered};
 ghost use Rattle.marks.specs.Meaning.{Along};
-ghost use Rattle.list_law.specs.Call.{away, Obeys};
+ghost use Rattle.list_law.specs.Call.{cell, away, Obeys};
 ghost use Rattle.list_law.specs.Runs.{chained};
 ghost use Rattle.list_law.specs.Making.{makes, releases, Makes};
 ghost use Rattle.list.specs.Views.{cell-of, row-of, anchor-of};
@@ -44,6 +45,14 @@ fn clear_rows<K: Key>(rows: &mut [Row<K>])
     }
 }
 
+// A free cell that keeps its key.
+fn freed_cell<K: Key>(key: K, link: Option<Place>) -> Cell<K>
+    ensures { λ r. ⌜ cell-of r ≡ cell key (numbered link) false ⌝ }
+{
+    let listed = false;
+    Cell { key, link, listed }
+}
+
 // Every cell is free and linked to the next; the keys stay.
 fn free_cells<K: Key>(cells: &mut [Cell<K>])
     requires { ⌜ length (now cells) ≤ 1008 ⌝ }
@@ -53,9 +62,7 @@ fn free_cells<K: Key>(cells: &mut [Cell<K>])
     for at in 0..count {
         let cell = &cells[at];
         let key = cell.key;
-        let link = link_after(at, count);
-        let listed = false;
-        cells[at] = Cell { key, link, listed };
+        cells[at] = freed_cell(key, link_after(at, count));
     }
 }
 

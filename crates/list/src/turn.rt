@@ -29,7 +29,7 @@ pub enum Turn<K> {
 }
 
 // Row and call together.
-pub fn turn_at<K: Key>(seat: Seat, doing: Doing<K>, request: Request<K>) -> Turn<K>
+pub(crate) fn turn_at<K: Key>(seat: Seat, doing: Doing<K>, request: Request<K>) -> Turn<K>
     ensures { λ r. ⌜ turn-of (seat .number) r ≡ turn (seat .number) (doing-of doing) (what-of request) ⌝ }
 {
     match (doing, request) {
