@@ -75,7 +75,7 @@ pub data Met : Type 0 where
   passed : ℕ → Link → Met
   -- the target: the place before (none: the head), the place, and its link
   present : Option ℕ → ℕ → Link → Met
-  -- the target is missing: the place before (none: the head), and the link that leadingSet on from there
+  -- the target is missing: the place before (none: the head), and the link that led on from there
   absent : Option ℕ → Link → Met
 
 -- a listed cell at place p with key x and link l, by the tests "x is below the target" and "the target is below x"
@@ -142,7 +142,7 @@ leadingSet (Some q) l m = memory (rewritten (m .cells) q (linked l)) (m .head) (
 abbrev pub freed : {K : Type 0} → ℕ → Memory K → Memory K
 freed p m = memory (rewritten (rewritten (m .cells) p (flagged false)) p (linked (m .free))) (m .head) (Some p)
 
--- remove, in the order of its writes: the link that leadingSet to place p gets p's own link, and p becomes free
+-- remove, in the order of its writes: the link that led to place p gets p's own link, and p becomes free
 abbrev pub removed : {K : Type 0} → Option ℕ → ℕ → Link → Memory K → Memory K
 removed lead p l m = freed p (leadingSet lead l m)
 
