@@ -3,3 +3,4 @@ pub mod Applied
 pub mod Turns
 pub mod Calls
 pub mod Chained
+pub mod Asks

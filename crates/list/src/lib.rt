@@ -2,6 +2,7 @@
 mod call;
 pub mod calls;
 pub mod cell;
+pub mod driver;
 pub mod making;
 mod memory;
 mod perform;

@@ -20,3 +20,4 @@ pub mod Performed
 pub mod Worked
 pub mod Continued
 pub mod Made
+pub mod Driven

@@ -6,3 +6,4 @@ pub mod Performed
 pub mod Worked
 pub mod Continued
 pub mod Making
+pub mod Driven
