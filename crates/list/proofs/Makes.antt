@@ -10,7 +10,7 @@ use lib.Dec.{ltb}
 use lib.ListN.{length, set, take, replicate}
 use Rattle.std.specs.Finite.{nth}
 use Rattle.std.specs.declared.option.Option.the-variants.{Some, None}
-use Rattle.std.proofs.shelf.Lists.{take-more-set, take-all, map-push, replicate-more}
+use Rattle.std.proofs.shelf.Lists.{length-map, take-more-set, take-all, map-push, replicate-more}
 use Rattle.std.proofs.shelf.Tests.{lt-ltb, le-ltb, cond-true, cond-false}
 use Rattle.marks.specs.Meaning.{Order, release, Along}
 use Rattle.list.specs.declared.row.Row as declared
@@ -19,7 +19,7 @@ use Rattle.list.specs.Views.{row-of}
 use Rattle.list.specs.Chained.{next-number, freed-front}
 use Rattle.list_law.specs.Call.{Cell, cell, away}
 use Rattle.list_law.specs.Runs.{onward, chained}
-use Rattle.list_law.specs.Making.{releases-from}
+use Rattle.list_law.specs.Making.{makes, releases-from}
 
 -- a row that is away
 abbrev pub away-row : {K : Type 0} → declared.Row K
@@ -60,3 +60,7 @@ pub releases-more : {S : Type 0} (acts : Order → S → S → Type 0) (t n : �
 releases-more acts t zero a b c e act = (c, subst (λ (x : _). acts (release t) x c) e (subst (λ k. acts (release k) b c) (add-zero t) act), refl)
 releases-more acts t (suc n) a b c (x, first, rest) act =
     (x, first, releases-more acts (suc t) n x b c rest (subst (λ k. acts (release k) b c) (add-suc t n ∙ sym (suc-add t n)) act))
+
+-- the sizes of what is lent are those of its view
+pub viewed : {X Y Z W : Type 0} (f : X → Y) (h : Z → W) (xs : List X) (zs : List Z) (w : ℕ) → makes (length xs) (length zs) w ≡ makes (length (map f xs)) (length (map h zs)) w
+viewed f h xs zs w = λ i. makes (sym (length-map xs f) i) (sym (length-map zs h) i) w

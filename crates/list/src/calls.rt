@@ -1,4 +1,4 @@
-// The calls, by plain seat number. Abandon is not offered to other crates yet.
+// The five calls, by plain seat number.
 ghost use mathlib.Core.Path.{_≡_};
 ghost use Rattle.list.specs.Turns.{what-of};
 ghost use Rattle.list_law.specs.Call.{Did};
@@ -91,7 +91,7 @@ pub fn step<K: Key, S: Scheme>(
 }
 
 // A running seat drops its operation, and its mark is released.
-pub(crate) fn abandon<K: Key, S: Scheme>(
+pub fn abandon<K: Key, S: Scheme>(
     cells: &mut [Cell<K>],
     rows: &mut [Row<K>],
     anchor: &mut Anchor,

@@ -86,7 +86,7 @@ fn release_all<S: Scheme>(scheme: &mut S)
 }
 
 // The sizes that making takes.
-fn sizes_fit(cells: usize, rows: usize, window: u8) -> bool
+pub(crate) fn sizes_fit(cells: usize, rows: usize, window: u8) -> bool
     ensures { λ r. ⌜ r ≡ makes cells rows window ⌝ }
 {
     (1 <= cells) & (cells <= 1008) & (rows == 16) & (1 <= window) & (window <= 64)

@@ -32,3 +32,7 @@ module _ {K M : Type 0} (below : K → K → Bool) (table : M → Table) (strict
   -- the same calls and the same answers
   pub driven-as : {asks asks′ : List (Ask K)} {answers answers′ : List Answer} {s : State K M} → asks ≡ asks′ → answers ≡ answers′ → Driven below table strict acts n w asks answers s → Driven below table strict acts n w asks′ answers′ s
   driven-as {s = s} e f d = subst (λ (x : List (Ask K) × List Answer). Driven below table strict acts n w (x .0) (x .1) s) (λ i. (e i, f i)) d
+
+-- the same numbers of cells and of the window
+pub driven-at : {K M : Type 0} {below : K → K → Bool} {table : M → Table} {strict : Bool} {acts : Order → M → M → Type 0} {n n′ w w′ : ℕ} {asks : List (Ask K)} {answers : List Answer} {s : State K M} → n ≡ n′ → w ≡ w′ → Driven below table strict acts n w asks answers s → Driven below table strict acts n′ w′ asks answers s
+driven-at {below = below} {table = table} {strict = strict} {acts = acts} {asks = asks} {answers = answers} {s = s} e f d = subst (λ (x : ℕ × ℕ). Driven below table strict acts (x .0) (x .1) asks answers s) (λ i. (e i, f i)) d

@@ -10,21 +10,16 @@ use Rattle.std.specs.declared.option.Option.the-variants.{Some, None}
 use Rattle.keys.specs.Total.{Total}
 use Rattle.list_law.specs.Call.{Link, State, away}
 use Rattle.list_law.specs.Runs.{onward}
-use Rattle.list_law.specs.Making.{makes, made-of}
 use Rattle.list_law.proofs.Made.{fits, makes-refused, makes-accepted}
 use Rattle.list.specs.Views.{cell-of, row-of}
 use Rattle.list.specs.Applied.{state-of}
-use Rattle.list.proofs.making.make.Given as given
+use Rattle.list.proofs.Makes.{viewed}
 use Rattle.list.proofs.making.make.Needs as need
 
 -- the first of some cells is linked to
 first-link : {X : Type 0} (xs : List X) → 1 ≤ length xs → _≡_ {A = Link} (Some 0) (onward 0 xs)
 first-link [] h = absurd (omega arith)
 first-link (x ∷ xs) h = refl
-
--- the sizes of what is lent are those of its view
-viewed : {X Y Z W : Type 0} (f : X → Y) (h : Z → W) (xs : List X) (zs : List Z) (w : ℕ) → makes (length xs) (length zs) w ≡ makes (length (map f xs)) (length (map h zs)) w
-viewed f h xs zs w = λ i. makes (sym (length-map xs f) i) (sym (length-map zs h) i) w
 
 pub returns-then-not-sizes-fit : need.returns-then-not-sizes-fit
 returns-then-not-sizes-fit g c =
