@@ -1,5 +1,7 @@
 // What every other crate speaks of: seats, places and bank bits, the kinds of operation, the refusals and the answers,
 // and the interrupt mask.
+#![tactic(auto)]
+
 pub mod answer;
 pub mod bank_bit;
 pub mod kind;

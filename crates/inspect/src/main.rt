@@ -1,4 +1,6 @@
 // Reads a schedule from standard input, and prints each record decoded with its offset, and where and why reading ended.
+#![tactic(auto)]
+
 use schedule::contents::read_whole;
 use std::io;
 use std::io::Read;

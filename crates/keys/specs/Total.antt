@@ -9,4 +9,4 @@ Same below x y = (below x y ≡ false) × (below y x ≡ false)
 pub record Total {K : Type 0} (below : K → K → Bool) : Type 0 where
   pub irreflexive : (x : K) → below x x ≡ false
   pub transitive : (x y z : K) → below x y ≡ true → below y z ≡ true → below x z ≡ true
-  pub same-transitive : (x y z : K) → Same below x y → Same below y z → Same below x z
+  pub same_transitive : (x y z : K) → Same below x y → Same below y z → Same below x z

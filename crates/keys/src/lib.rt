@@ -1,4 +1,6 @@
 // What a key is, and the keys: sectors and wear keys.
+#![tactic(auto)]
+
 pub mod key;
 pub mod sector;
 #[cfg(test)]

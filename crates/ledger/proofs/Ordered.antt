@@ -136,7 +136,7 @@ module _ {K : Type 0} (below : K → K → Bool) (order : Total below) where
       go : (a : Bool) → below x z ≡ a → (b : Bool) → below z x ≡ b → below x z ≡ true
       go true e b f = e
       go false e true f = absurd (both_ways (below y x) yx (order.transitive y z x yz f))
-      go false e false f = absurd (both_ways (below y z) (order.same-transitive y x z (yx, xy) (e, f)).0 yz)
+      go false e false f = absurd (both_ways (below y z) (order.same_transitive y x z (yx, xy) (e, f)).0 yz)
 
   pub above-all : (x y : K) (ys : List K) → below x y ≡ true → Every (below y) ys → Every (below x) ys
   above-all x y ys h = every-if (below y) (below x) (λ z k. order.transitive x y z h k) ys

@@ -1,4 +1,6 @@
 // The cells of the singly linked index: what the caller lends, the walk along their links, and the writes of a window.
+#![tactic(auto)]
+
 pub mod cell;
 pub mod memory;
 pub mod walk;

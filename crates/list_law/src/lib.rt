@@ -1,3 +1,5 @@
 // The singly linked index.
+#![tactic(auto)]
+
 pub mod law;
 mod proved;

@@ -1,2 +1,4 @@
 // Making an index over lent cells.
+#![tactic(auto)]
+
 pub mod making;

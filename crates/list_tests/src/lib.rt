@@ -1,4 +1,6 @@
 // Tests of the singly linked index: the code of `list` run at its edges.
+#![tactic(auto)]
+
 #[cfg(test)]
 mod driven;
 #[cfg(test)]

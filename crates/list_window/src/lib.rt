@@ -1,4 +1,6 @@
 // The inner part of a call of the singly linked index: rows, what a call makes of a row, and one window.
+#![tactic(auto)]
+
 pub mod perform;
 pub mod row;
 mod seats;

@@ -1,4 +1,6 @@
 // What a scheme of marks is, and the schemes.
+#![tactic(auto)]
+
 pub mod full;
 pub mod owner;
 pub mod pair;

@@ -1,2 +1,4 @@
 // What a record of a schedule says.
+#![tactic(auto)]
+
 pub mod record;

@@ -1,4 +1,6 @@
 // A schedule in, its lines out.
+#![tactic(auto)]
+
 ghost use Rattle.std.specs.Prelude.{◌≡◌, IfOk, string_bytes};
 ghost use Rattle.schedule.specs.Lines.{line_of};
 ghost use Rattle.replay.specs.Texts.{Replayed};

@@ -1,4 +1,6 @@
 // Schedules: the reader over lent bytes, what a whole schedule holds, and the lines that answer it.
+#![tactic(auto)]
+
 pub mod contents;
 pub mod laws;
 pub mod lines;

@@ -1,4 +1,6 @@
 // Two firmware tasks on one index of wear keys: a host that looks up and inserts, and a cleaner that removes. Each takes its seat as a slip.
+#![tactic(auto)]
+
 mod account;
 mod plan;
 mod station;

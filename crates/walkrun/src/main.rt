@@ -1,4 +1,6 @@
 // Reads a schedule from standard input, and prints the lines that answer it.
+#![tactic(auto)]
+
 use replay::replay;
 use std::io;
 use std::io::Read;

@@ -9,14 +9,14 @@ use Rattle.replay.proofs.Whole.{not_opened, opened}
 use Rattle.replay.proofs.replay.Goals as goal
 
 pub returns-in-Err : goal.returns-in-Err
-returns-in-Err c = IfOk-weaker c.open-line.result _ _ (λ text t. not_opened c.args.bytes.now (string_bytes text) c.in-Err.refusal c.in-Err.ensures t) c.open-line.ensures
+returns-in-Err c = IfOk-weaker c.open_line.result _ _ (λ text t. not_opened c.args.bytes.now (string_bytes text) c.in-Err.refusal c.in-Err.ensures t) c.open_line.ensures
 
 pub returns : goal.returns
 returns c =
-    let contents = c.in-ok-contents.contents in
+    let contents = c.in_ok-contents.contents in
     let stop = refused-by contents.refusal in
-    let answers = c.in-ok-outcomes.outcomes in
+    let answers = c.in_ok-outcomes.outcomes in
     IfOk-weaker c.lines.result _ _
-    (λ text t. opened c.args.bytes.now (string_bytes text) contents (vec_items answers) c.in-default.ensures.0 c.in-ok-contents.ensures
-    (subst (λ (parts : List Part). Outcome parts stop (vec_items answers)) c.as-slice.ensures.value c.in-ok-outcomes.ensures) (t ∙ ap (lines_from 1) c.as-slice-2.ensures.value))
+    (λ text t. opened c.args.bytes.now (string_bytes text) contents (vec_items answers) c.in_default.ensures.0 c.in_ok-contents.ensures
+    (subst (λ (parts : List Part). Outcome parts stop (vec_items answers)) c.as_slice.ensures.value c.in_ok-outcomes.ensures) (t ∙ ap (lines_from 1) c.as_slice-2.ensures.value))
     c.lines.ensures

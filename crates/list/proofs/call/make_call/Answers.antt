@@ -15,7 +15,7 @@ use Rattle.list.proofs.call.make_call.Goals as goal
 pub returns-in-Err : goal.returns-in-Err
 returns-in-Err g c =
     let key = g.met.K.Key in
-    let order : Total g.K.Key.below = record { irreflexive = key.irreflexive; transitive = key.transitive; same-transitive = key.same_transitive } in
+    let order : Total g.K.Key.below = record { irreflexive = key.irreflexive; transitive = key.transitive; same_transitive = key.same_transitive } in
     let lent = state-of c.args.cells.now c.args.rows.now c.args.anchor.now c.args.scheme.now in
     let call = call-of (what-of c.args.request) c.args.seat c.args.mask.now.level c.args.cells.now c.args.rows.now in
     let did = did-refuse g.K.Key.below g.S.Scheme.table g.S.Scheme.strict g.S.Scheme.acts lent call c.in-Err.refusal c.in-Err.ensures in
@@ -28,7 +28,7 @@ returns-in-Err g c =
 pub returns : goal.returns
 returns g c =
     let key = g.met.K.Key in
-    let order : Total g.K.Key.below = record { irreflexive = key.irreflexive; transitive = key.transitive; same-transitive = key.same_transitive } in
+    let order : Total g.K.Key.below = record { irreflexive = key.irreflexive; transitive = key.transitive; same_transitive = key.same_transitive } in
     let lent = state-of c.args.cells.now c.args.rows.now c.args.anchor.now c.args.scheme.now in
     let call = call-of (what-of c.args.request) c.args.seat c.args.mask.now.level c.args.cells.now c.args.rows.now in
     let did = did-perform g.K.Key.below g.S.Scheme.table g.S.Scheme.strict g.S.Scheme.acts lent call c.in-Ok.taken.number c.in-Ok.ensures.0 c.in-Ok.ensures.1 c.perform.ensures in

@@ -12,25 +12,25 @@ loop-passed-preserved g c =
     let cells = map cell-of c.args.cells.now in
     let l = c.loop-passed in
     let x = c.args.target in
-    let cell = c.in-Some-cell-at.cell in
+    let cell = c.in-Some-cell_at.cell in
     let place = c.in-Some.place.number in
     walk-on below cells x c.args.room l.-passed (numbered l.lead) (numbered l.link) place (numbered cell.link) c.loop-passed-test.true
-    (passed_here below cells x (numbered l.lead) place (cell-of cell) c.in-Some-cell-at.ensures (sym c.if-not-passes.ensures) ∙ ap (λ o. look below cells x (numbered l.lead) (numbered o)) (sym c.in-Some.is))
+    (passed_here below cells x (numbered l.lead) place (cell-of cell) c.in-Some-cell_at.ensures (sym c.if-not-passes.ensures) ∙ ap (λ o. look below cells x (numbered l.lead) (numbered o)) (sym c.in-Some.is))
     ∙ l.invariant
 
-pub returns-in-default : goal.returns-in-default
-returns-in-default g c =
+pub returns-in_default : goal.returns-in_default
+returns-in_default g c =
     let below = g.K.Key.below in
     let cells = map cell-of c.args.cells.now in
     let l = c.loop-passed in
     let x = c.args.target in
     walk_ends below cells x c.args.room l.-passed (numbered l.lead) (numbered l.link) _ c.loop-passed-test.true
     (λ p k e. let z : ◌≡◌ {A = ℕ} 0 1 = cc in absurd (omega arith))
-    (ap (λ o. absent (numbered l.lead) (numbered o)) c.in-default.is ∙ ap (λ o. look below cells x (numbered l.lead) (numbered o)) (sym c.in-default.is))
+    (ap (λ o. absent (numbered l.lead) (numbered o)) c.in_default.is ∙ ap (λ o. look below cells x (numbered l.lead) (numbered o)) (sym c.in_default.is))
     ∙ l.invariant
 
-pub returns-in-default-cell-at : goal.returns-in-default-cell-at
-returns-in-default-cell-at g c =
+pub returns-in_default-cell_at : goal.returns-in_default-cell_at
+returns-in_default-cell_at g c =
     let below = g.K.Key.below in
     let cells = map cell-of c.args.cells.now in
     let l = c.loop-passed in
@@ -38,7 +38,7 @@ returns-in-default-cell-at g c =
     let place = c.in-Some.place.number in
     walk_ends below cells x c.args.room l.-passed (numbered l.lead) (numbered l.link) bad c.loop-passed-test.true
     (λ p k e. let z : ◌≡◌ {A = ℕ} 0 1 = cc in absurd (omega arith))
-    (ap (met below x (numbered l.lead) place) c.in-default-cell-at.ensures ∙ ap (λ o. look below cells x (numbered l.lead) (numbered o)) (sym c.in-Some.is))
+    (ap (met below x (numbered l.lead) place) c.in_default-cell_at.ensures ∙ ap (λ o. look below cells x (numbered l.lead) (numbered o)) (sym c.in-Some.is))
     ∙ l.invariant
 
 pub returns-then-not-passes : goal.returns-then-not-passes
@@ -47,9 +47,9 @@ returns-then-not-passes g c =
     let cells = map cell-of c.args.cells.now in
     let l = c.loop-passed in
     let x = c.args.target in
-    let cell = c.in-Some-cell-at.cell in
+    let cell = c.in-Some-cell_at.cell in
     let place = c.in-Some.place.number in
-    let found = c.in-Some-cell-at.ensures in
+    let found = c.in-Some-cell_at.ensures in
     let judged = c.judge.ensures ∙ ap (met below x (numbered l.lead) place) found in
     walk_ends below cells x c.args.room l.-passed (numbered l.lead) (numbered l.link) _ c.loop-passed-test.true
     (λ p k e. ends-here below cells x (numbered l.lead) place (cell-of cell) found (sym c.if-not-passes.ensures) p k (sym judged ∙ e))

@@ -27,8 +27,8 @@ loop-at-preserved g c =
     let own : call-of (what-of ask.request) ask.seat ask.level c.loop-at.cells c.loop-at.rows ≡ called before (ask-of ask) =
     λ i. record { what = what-of ask.request; seat = ask.seat; level = ask.level; cells = sym (length-map c.loop-at.cells cell-of) i; rows = sym (length-map c.loop-at.rows row_of) i } in
     let one = take_more (map ask-of asks) at (ask-of ask) (omega (arith, length-map asks ask-of)) ∙ ap (λ k. take at (map ask-of asks) ++ k ∷ []) (get_or-map ask-of asks at ask (ask-of ask) (omega arith) ∙ ap ask-of (sym c.index-asks-at.is)) in
-    driven-as g.K.Key.below scheme.table scheme.strict scheme.acts n w (sym one) (sym (take_more_set c.loop-at.answers at c.run-ask.result (omega (arith, kept.answers, c.requires.0))))
-    (driven-more g.K.Key.below scheme.table scheme.strict scheme.acts n w _ _ _ before (ask-of ask) _ c.run-ask.result _ call own c.loop-at.invariant c.run-ask.ensures.did c.run-ask.ensures.runs)
+    driven-as g.K.Key.below scheme.table scheme.strict scheme.acts n w (sym one) (sym (take_more_set c.loop-at.answers at c.run_ask.result (omega (arith, kept.answers, c.requires.0))))
+    (driven-more g.K.Key.below scheme.table scheme.strict scheme.acts n w _ _ _ before (ask-of ask) _ c.run_ask.result _ call own c.loop-at.invariant c.run_ask.ensures.did c.run_ask.ensures.runs)
 
 pub returns : goal.returns
 returns g c =

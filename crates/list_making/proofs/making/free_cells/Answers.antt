@@ -16,9 +16,9 @@ loop-at-preserved g c =
     let at = c.loop-at.at in
     let count = length c.args.cells.now in
     let given = map cell-of c.args.cells.now in
-    let old = c.given-at-given.result in
-    let read : slice_get given at ≡ _ = sym (front-nth count at 0 given) ∙ sym (ap (λ l. slice_get l at) c.loop-at.invariant.1) ∙ nth-map cell-of cells at ∙ ap (option_map cell-of) (slice_get-get_or cells at old (omega arith) ∙ ap Some (sym c.given-at-given.ensures)) in
-    let written = c.freed-cell.ensures ∙ ap (λ l. cell old.key l false) (c.link-after.ensures ∙ ap (λ k. next-number k count) (sym (zero-add at))) in
+    let old = c.given_at-given.result in
+    let read : slice_get given at ≡ _ = sym (front-nth count at 0 given) ∙ sym (ap (λ l. slice_get l at) c.loop-at.invariant.1) ∙ nth-map cell-of cells at ∙ ap (option_map cell-of) (slice_get-get_or cells at old (omega arith) ∙ ap Some (sym c.given_at-given.ensures)) in
+    let written = c.freed_cell.ensures ∙ ap (λ l. cell old.key l false) (c.link_after.ensures ∙ ap (λ k. next-number k count) (sym (zero-add at))) in
     (refl, map-set cell-of cells at _ ∙ (λ i. set (c.loop-at.invariant.1 i) at (written i)) ∙ front-more count at 0 given _ read ∙ ap (λ n. freed-front count n 0 given) (sym (add-one at)))
 
 pub returns : goal.returns

@@ -10,5 +10,5 @@ returns g c =
     let cells = c.args.cells.now in
     let anchor = c.args.anchor.now in
     let mark = numbered c.args.mark in
-    let room : c.saturating-sub-room.result ≡ pred (reach c.args.seat.number anchor.window mark) = c.saturating-sub-room.ensures ∙ ap (λ n. n - 1) c.width.ensures ∙ sub-one _ in
-    c.walk-from.ensures ∙ ap (λ r. walked g.K.Key.below (map cell-of cells) (numbered anchor.head) c.args.target r mark) room
+    let room : c.saturating_sub-room.result ≡ pred (reach c.args.seat.number anchor.window mark) = c.saturating_sub-room.ensures ∙ ap (λ n. n - 1) c.width.ensures ∙ sub-one _ in
+    c.walk_from.ensures ∙ ap (λ r. walked g.K.Key.below (map cell-of cells) (numbered anchor.head) c.args.target r mark) room

@@ -6,5 +6,5 @@ use Rattle.marks.proofs.spread.slot_of.Goals as goal
 pub returns : goal.returns
 unfolding slot
 returns c =
-    let value = c.spread-entry.ensures ∙ ap (λ n. get_or entries (n % 16) 0) c.number.ensures in
+    let value = c.spread_entry.ensures ∙ ap (λ n. get_or entries (n % 16) 0) c.number.ensures in
     record { value = value; below = subst (λ (n : ℕ). n < 16) (sym value) (slot-below c.args.p.number) }

@@ -16,7 +16,7 @@ loop-part-preserved c =
     let parts = c.args.parts.now in
     let at = c.loop-part.part-index in
     let h : at < length parts = omega arith in
-    asks-again parts at _ h c.loop-part.invariant c.in-ok-push-ask.ensures
+    asks-again parts at _ h c.loop-part.invariant c.in_ok-push_ask.ensures
 
 pub returns : goal.returns
 returns c = c.loop-part.invariant ∙ ap (λ l. asks_of (map seen l)) (take_all c.loop-part.part-index c.args.parts.now (omega arith))

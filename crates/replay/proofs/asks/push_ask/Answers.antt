@@ -3,7 +3,7 @@ use Rattle.std.proofs.lemmas.List.{map_push}
 use Rattle.list_driver.specs.Asks.{ask-of}
 use Rattle.replay.proofs.asks.push_ask.Goals as goal
 
-pub returns-in-ok-push : goal.returns-in-ok-push
-returns-in-ok-push c =
+pub returns-in_ok-push : goal.returns-in_ok-push
+returns-in_ok-push c =
     let items = vec_items c.args.asks.now in
-    ap (map ask-of) c.in-ok-push.ensures.items ∙ map_push ask-of items c.in-Some.ask ∙ ap (λ l. map ask-of items ++ l) c.in-Some.ensures
+    ap (map ask-of) c.in_ok-push.ensures.items ∙ map_push ask-of items c.in-Some.ask ∙ ap (λ l. map ask-of items ++ l) c.in-Some.ensures

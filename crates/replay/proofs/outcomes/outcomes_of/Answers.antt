@@ -6,8 +6,8 @@ use Rattle.replay.proofs.outcomes.outcomes_of.Goals as goal
 
 pub returns-in-Some : goal.returns-in-Some
 returns-in-Some c =
-    IfOk-weaker c.outcomes-after.result _ _ (λ v o. some_first c.args.parts.now _ _ (refused-by c.args.stop) (vec_items v) c.in-Some.ensures.cases.0 o) c.outcomes-after.ensures
+    IfOk-weaker c.outcomes_after.result _ _ (λ v o. some_first c.args.parts.now _ _ (refused-by c.args.stop) (vec_items v) c.in-Some.ensures.cases.0 o) c.outcomes_after.ensures
 
 pub returns : goal.returns
 returns c =
-    none_first c.args.parts.now (refused-by c.args.stop) _ c.in-default.ensures.cases (c.in-ok-push-stop.ensures ∙ ap (λ l. l ++ refused-by c.args.stop) c.new-outcomes.ensures.items)
+    none_first c.args.parts.now (refused-by c.args.stop) _ c.in_default.ensures.cases (c.in_ok-push_stop.ensures ∙ ap (λ l. l ++ refused-by c.args.stop) c.new-outcomes.ensures.items)

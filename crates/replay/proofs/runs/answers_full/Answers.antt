@@ -6,4 +6,4 @@ use Rattle.replay.proofs.runs.answers_full.Goals as goal
 pub returns : goal.returns
 returns c =
     let asks = map ask-of c.args.asks.now in
-    said c.answers-over.result _ _ _ (λ v h. by-full c.args.count c.args.window asks (vec_items v) h.0 _ c.new.ensures.exact h.1) c.answers-over.ensures
+    said c.answers_over.result _ _ _ (λ v h. by-full c.args.count c.args.window asks (vec_items v) h.0 _ c.new.ensures.exact h.1) c.answers_over.ensures

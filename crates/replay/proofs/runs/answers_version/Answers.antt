@@ -6,4 +6,4 @@ use Rattle.replay.proofs.runs.answers_version.Goals as goal
 pub returns : goal.returns
 returns c =
     let asks = map ask-of c.args.asks.now in
-    said c.answers-over.result _ _ _ (λ v h. by-version c.args.count c.args.window asks (vec_items v) h.0 _ c.version-from-zero.ensures h.1) c.answers-over.ensures
+    said c.answers_over.result _ _ _ (λ v h. by-version c.args.count c.args.window asks (vec_items v) h.0 _ c.version_from_zero.ensures h.1) c.answers_over.ensures

@@ -8,11 +8,11 @@ use Rattle.replay.specs.Answers.{blank}
 use Rattle.replay.proofs.runs.blank_cells.Goals as goal
 
 pub loop-init : goal.loop-init
-loop-init c = ap (map cell-of) c.in-ok-cells.ensures.items
+loop-init c = ap (map cell-of) c.in_ok-cells.ensures.items
 
 pub loop-preserved : goal.loop-preserved
 loop-preserved c =
-    ap (map cell-of) c.in-ok-push.ensures.items ∙ map_push cell-of (vec_items c.loop.cells) _ ∙ ap (λ l. l ++ cell (sector 0) None false ∷ []) c.loop.invariant ∙ replicate_more c.loop.counter (cell (sector 0) None false)
+    ap (map cell-of) c.in_ok-push.ensures.items ∙ map_push cell-of (vec_items c.loop.cells) _ ∙ ap (λ l. l ++ cell (sector 0) None false ∷ []) c.loop.invariant ∙ replicate_more c.loop.counter (cell (sector 0) None false)
 
 pub returns : goal.returns
 returns c = let all : c.loop.counter ≡ c.args.count = omega arith in c.loop.invariant ∙ ap blank all

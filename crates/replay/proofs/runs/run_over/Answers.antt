@@ -12,16 +12,16 @@ returns-in-Ok g c =
     let cells = length-map c.args.cells.now cell-of in
     let as_many = length-map c.args.asks.now ask-of ∙ c.requires in
     record {
-      sizes = sym (accepted scheme.table scheme.strict scheme.acts _ _ _ _ _ _ _ _ _ c.run-calls.ensures.ran refl refl cells as_many c.in-Ok.is);
-      ran = λ _. over scheme.table scheme.strict scheme.acts _ _ _ _ _ _ _ _ _ c.run-calls.ensures.ran refl refl cells as_many c.in-Ok.is;
+      sizes = sym (accepted scheme.table scheme.strict scheme.acts _ _ _ _ _ _ _ _ _ c.run_calls.ensures.ran refl refl cells as_many c.in-Ok.is);
+      ran = λ _. over scheme.table scheme.strict scheme.acts _ _ _ _ _ _ _ _ _ c.run_calls.ensures.ran refl refl cells as_many c.in-Ok.is;
     }
 
-pub returns-in-default : goal.returns-in-default
-returns-in-default g c =
+pub returns-in_default : goal.returns-in_default
+returns-in_default g c =
     let scheme = g.S.Scheme in
     let cells = length-map c.args.cells.now cell-of in
     let as_many = length-map c.args.asks.now ask-of ∙ c.requires in
     record {
-      sizes = sym (refused scheme.table scheme.strict scheme.acts _ _ _ _ _ _ _ _ _ c.run-calls.ensures.ran refl refl cells as_many c.in-default.not-Ok);
+      sizes = sym (refused scheme.table scheme.strict scheme.acts _ _ _ _ _ _ _ _ _ c.run_calls.ensures.ran refl refl cells as_many c.in_default.not-Ok);
       ran = λ e. let z : ◌≡◌ {A = ℕ} 0 1 = cc in absurd (omega arith);
     }

@@ -14,8 +14,8 @@ pub loop-index-preserved : goal.loop-index-preserved
 loop-index-preserved c =
     let answers = c.args.answers.now in
     let at = c.loop-index.index in
-    c.in-ok-push-str.ensures.bytes
-    ∙ (λ i. (c.loop-index.invariant i) ++ (c.as-str.ensures.value ∙ c.in-ok-line-at.ensures) i)
+    c.in_ok-push_str.ensures.bytes
+    ∙ (λ i. (c.loop-index.invariant i) ++ (c.as_str.ensures.value ∙ c.in_ok-line_at.ensures) i)
     ∙ sym (lines_more 1 (take at answers) (get_or answers at No) (at + 1) (omega (arith, length-take-le at answers (omega arith))))
     ∙ ap (lines_from 1) (sym (take_more answers at No (omega arith)))
 

@@ -4,5 +4,5 @@ use Rattle.schedule.proofs.reader.cut.Goals as goal
 
 pub returns : goal.returns
 returns c =
-    let parts = c.split-at.ensures in
-    cut_at c.args.rest.now c.length-of-len.result (search rules) (omega arith) c.if-bytes-len.false ∙ (λ i. Some (sym parts.front i, sym parts.back i))
+    let parts = c.split_at.ensures in
+    cut_at c.args.rest.now c.length_of-len.result (search rules) (omega arith) c.if-bytes-len.false ∙ (λ i. Some (sym parts.front i, sym parts.back i))

@@ -8,7 +8,7 @@ use Rattle.tasks.proofs.station.run_tasks.Goals as goal
 pub returns : goal.returns
 returns g c =
     let scheme = g.S.Scheme in
-    let opened = c.in-ok-station.ensures in
+    let opened = c.in_ok-station.ensures in
     let seats = opened.seats in
     let lines = c.play.new.lines in
     let went = c.play.ensures.plays (length c.args.cells) c.args.window opened.begun.start _ _ opened.begun.cells opened.begun.run in

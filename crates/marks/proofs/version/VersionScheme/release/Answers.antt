@@ -2,10 +2,10 @@ use Rattle.marks.specs.Meaning.Order.{release}
 use Rattle.marks.proofs.VersionLaws.{version-means, version-sound, put-acted}
 use Rattle.marks.proofs.version.VersionScheme.release.Goals as goal
 
-pub invariant-of-self : goal.invariant-of-self
-invariant-of-self c =
+pub invariant_of-self : goal.invariant_of-self
+invariant_of-self c =
     let acted = put-acted c.args.self.now.kept _ _ _ c.clear.ensures.marks c.clear.ensures.counters in
-    (version-sound _ _ c.clear.ensures.sixteen c.args.self.now.sound (release c.args.t.number) c.args.t.ok acted, tt)
+    record { sound = version-sound _ _ c.clear.ensures.sixteen c.args.self.now.sound (release c.args.t.number) c.args.t.ok acted }
 
 pub returns : goal.returns
 returns c =

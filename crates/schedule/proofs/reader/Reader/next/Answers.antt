@@ -10,8 +10,8 @@ returns c =
     let reader = c.args.self.now in
     let bytes = c.in-Some.bytes.now in
     let left = c.in-Some.left.now in
-    let is = hands reader.first reader.total reader.rest.now bytes left _ c.in-Some.ensures (sym c.in-Some-content-at.ensures) in
-    let offset : c.saturating-sub-offset.result ≡ reader.total - length left - length bytes = omega arith in
+    let is = hands reader.first reader.total reader.rest.now bytes left _ c.in-Some.ensures (sym c.in-Some-content_at.ensures) in
+    let offset : c.saturating_sub-offset.result ≡ reader.total - length left - length bytes = omega arith in
     let moved = c.moved.ensures in
     record {
       value = ap (λ n. told 0 (codes "record") (n ∷ bytes)) offset ∙ sym (ap due is);

@@ -12,27 +12,27 @@ use Rattle.tasks.proofs.station.Station.open.Goals as goal
 
 pub unreachable-requires : goal.unreachable-requires
 unreachable-requires g c =
-    let first = joined-held _ _ _ _ _ _ _ _ c.in-ok-host.ensures.did (as_long _ _ c.join.auto.cells) refl refl in
+    let first = joined-held _ _ _ _ _ _ _ _ c.in_ok-host.ensures.did (as_long _ _ c.join.auto.cells) refl refl in
     let held = stays-held _ _ _ _ _ _ _ _ c.in-Err.ensures.did (as_long _ _ c.join-2.auto.cells) _ (inl join_apart) first.held in
-    let level = c.in-Err.ensures.level ∙ c.in-ok-host.ensures.level in
-    refused-apart (leave-accepted _ _ _ _ _ _ _ _ c.in-Err-leave.ensures.did (as_long _ _ c.leave.auto.cells) refl (ap (λ l. ltb l 7) level) (held_at c.in-ok-host.ensures.seat held))
+    let level = c.in-Err.ensures.level ∙ c.in_ok-host.ensures.level in
+    refused-apart (leave-accepted _ _ _ _ _ _ _ _ c.in-Err-leave.ensures.did (as_long _ _ c.leave.auto.cells) refl (ap (λ l. ltb l 7) level) (held_at c.in_ok-host.ensures.seat held))
 
 pub returns-in-Ok : goal.returns-in-Ok
 returns-in-Ok g c =
-    let first = joined-held _ _ _ _ _ _ _ _ c.in-ok-host.ensures.did (as_long _ _ c.join.auto.cells) refl refl in
+    let first = joined-held _ _ _ _ _ _ _ _ c.in_ok-host.ensures.did (as_long _ _ c.join.auto.cells) refl refl in
     let second = joined-held _ _ _ _ _ _ _ _ c.in-Ok.ensures.did (as_long _ _ c.join-2.auto.cells) refl refl in
     let held = stays-held _ _ _ _ _ _ _ _ c.in-Ok.ensures.did (as_long _ _ c.join-2.auto.cells) _ (inl join_apart) first.held in
-    let host = c.in-ok-host.ensures.seat in
+    let host = c.in_ok-host.ensures.seat in
     let cleaner = c.in-Ok.ensures.seat in
     let made = c.make.ensures in
-    let fits = accepted _ _ made.answer c.in-default.not-Refused in
+    let fits = accepted _ _ made.answer c.in_default.not-Refused in
     let cells = length-map c.args.cells cell-of in
     let long = c.make.auto.cells in
     let start = driven-at cells refl (driven-none wear-below g.S.Scheme.table g.S.Scheme.strict g.S.Scheme.acts _ _ _ (made.runs fits)) in
-    let one = joins c.args.host _ _ _ _ _ long c.make.auto.rows refl start c.in-ok-host.ensures.did c.in-ok-host.ensures.runs in
-    let two = joins c.args.cleaner _ _ _ _ _ (c.join.auto.cells ∙ long) (c.join.auto.rows ∙ c.make.auto.rows) c.in-ok-host.ensures.level one c.in-Ok.ensures.did c.in-Ok.ensures.runs in
+    let one = joins c.args.host _ _ _ _ _ long c.make.auto.rows refl start c.in_ok-host.ensures.did c.in_ok-host.ensures.runs in
+    let two = joins c.args.cleaner _ _ _ _ _ (c.join.auto.cells ∙ long) (c.join.auto.rows ∙ c.make.auto.rows) c.in_ok-host.ensures.level one c.in-Ok.ensures.did c.in-Ok.ensures.runs in
     record {
       begun = record { cells = c.join-2.auto.cells ∙ c.join.auto.cells ∙ long; start = _; run = two };
-      manned = manned-by _ _ _ host cleaner held second.held (λ e. first.held.row (ap (row_at _) e ∙ second.was)) (c.in-Ok.ensures.level ∙ c.in-ok-host.ensures.level);
+      manned = manned-by _ _ _ host cleaner held second.held (λ e. first.held.row (ap (row_at _) e ∙ second.was)) (c.in-Ok.ensures.level ∙ c.in_ok-host.ensures.level);
       seats = (host, cleaner);
     }
