@@ -14,7 +14,7 @@ loop-passed-preserved g c =
     let x = c.args.target in
     let cell = c.in-Some-cell_at.cell in
     let place = c.in-Some.place.number in
-    walk-on below cells x c.args.room l.-passed (numbered l.lead) (numbered l.link) place (numbered cell.link) c.loop-passed-test.true
+    walk-on below cells x c.args.room l._passed (numbered l.lead) (numbered l.link) place (numbered cell.link) c.loop-passed-test.true
     (passed_here below cells x (numbered l.lead) place (cell-of cell) c.in-Some-cell_at.ensures (sym c.if-not-passes.ensures) ∙ ap (λ o. look below cells x (numbered l.lead) (numbered o)) (sym c.in-Some.is))
     ∙ l.invariant
 
@@ -24,7 +24,7 @@ returns-in_default g c =
     let cells = map cell-of c.args.cells.now in
     let l = c.loop-passed in
     let x = c.args.target in
-    walk_ends below cells x c.args.room l.-passed (numbered l.lead) (numbered l.link) _ c.loop-passed-test.true
+    walk_ends below cells x c.args.room l._passed (numbered l.lead) (numbered l.link) _ c.loop-passed-test.true
     (λ p k e. let z : ◌≡◌ {A = ℕ} 0 1 = cc in absurd (omega arith))
     (ap (λ o. absent (numbered l.lead) (numbered o)) c.in_default.is ∙ ap (λ o. look below cells x (numbered l.lead) (numbered o)) (sym c.in_default.is))
     ∙ l.invariant
@@ -36,7 +36,7 @@ returns-in_default-cell_at g c =
     let l = c.loop-passed in
     let x = c.args.target in
     let place = c.in-Some.place.number in
-    walk_ends below cells x c.args.room l.-passed (numbered l.lead) (numbered l.link) bad c.loop-passed-test.true
+    walk_ends below cells x c.args.room l._passed (numbered l.lead) (numbered l.link) bad c.loop-passed-test.true
     (λ p k e. let z : ◌≡◌ {A = ℕ} 0 1 = cc in absurd (omega arith))
     (ap (met below x (numbered l.lead) place) c.in_default-cell_at.ensures ∙ ap (λ o. look below cells x (numbered l.lead) (numbered o)) (sym c.in-Some.is))
     ∙ l.invariant
@@ -51,7 +51,7 @@ returns-then-not-passes g c =
     let place = c.in-Some.place.number in
     let found = c.in-Some-cell_at.ensures in
     let judged = c.judge.ensures ∙ ap (met below x (numbered l.lead) place) found in
-    walk_ends below cells x c.args.room l.-passed (numbered l.lead) (numbered l.link) _ c.loop-passed-test.true
+    walk_ends below cells x c.args.room l._passed (numbered l.lead) (numbered l.link) _ c.loop-passed-test.true
     (λ p k e. ends-here below cells x (numbered l.lead) place (cell-of cell) found (sym c.if-not-passes.ensures) p k (sym judged ∙ e))
     (judged ∙ ap (λ o. look below cells x (numbered l.lead) (numbered o)) (sym c.in-Some.is))
     ∙ l.invariant
@@ -59,5 +59,5 @@ returns-then-not-passes g c =
 pub returns : goal.returns
 returns g c =
     c.follow.ensures
-    ∙ walk-last g.K.Key.below (map cell-of c.args.cells.now) c.args.target c.args.room c.loop-passed.-passed (numbered c.loop-passed.lead) (numbered c.loop-passed.link) c.loop-passed-test.false
+    ∙ walk-last g.K.Key.below (map cell-of c.args.cells.now) c.args.target c.args.room c.loop-passed._passed (numbered c.loop-passed.lead) (numbered c.loop-passed.link) c.loop-passed-test.false
     ∙ c.loop-passed.invariant

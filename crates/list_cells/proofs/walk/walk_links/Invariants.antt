@@ -9,4 +9,4 @@ abbrev pub invariant-loop-passed : goal.invariant-loop-passed
 invariant-loop-passed g l =
     let below = g.K.Key.below in
     let cells = map cell-of l.cells in
-    walk below cells l.target (l.room - l.-passed) (numbered l.lead) (numbered l.link) ≡ walk below cells l.target l.room (numbered l.initial.lead) (numbered l.initial.link)
+    walk below cells l.target (l.room - l._passed) (numbered l.lead) (numbered l.link) ≡ walk below cells l.target l.room (numbered l.initial.lead) (numbered l.initial.link)
