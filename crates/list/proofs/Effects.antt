@@ -6,7 +6,7 @@ use Rattle.marks.specs.Meaning.{Table, Order}
 use Rattle.basis.specs.declared.refusal.Refusal.{Refusal}
 use Rattle.ledger.specs.Tests.{first}
 use Rattle.ledger.specs.Ledger.{Call}
-use Rattle.list_law.specs.Call.{State, Effect, refusals, memoryOf, callEffect, effect, row_at, turn, turnEffect, Did}
+use Rattle.list_law.specs.Call.{State, refusals, memoryOf, callEffect, effect, row_at, turn, turnEffect, Did}
 use Rattle.list_window.specs.Applied.{Applied}
 use Rattle.list_window.proofs.Effects.{as-effect}
 

@@ -1,5 +1,5 @@
 -- A join and a leave answer ok or a refusal, and nothing else. Assumes nothing.
-use Rattle.std.proofs.Common.{◌≡◌, ℕ, Bool, ◌⊎◌, Some, None, Option, sym, refl, ap, ◌∙◌, subst, inl, inr}
+use Rattle.std.proofs.Common.{◌≡◌, ℕ, Bool, ◌⊎◌, Some, None, Option, refl, ◌∙◌, inl, inr}
 use Rattle.basis.specs.declared.refusal.Refusal.{Refusal}
 use Rattle.basis.specs.declared.refusal.Refusal.TheVariants.{NotAway, Away}
 use Rattle.basis.specs.declared.answer.Answer.{Answer}

@@ -1,5 +1,5 @@
 -- A call of a request, as the definitions of one call have it. Assumes nothing.
-use Rattle.std.specs.Prelude.{◌≡◌, ℕ, List, length}
+use Rattle.std.specs.Prelude.{ℕ, List, length}
 use Rattle.ledger.specs.Ledger.{What, Call}
 
 -- the call with its arguments: the seat as a plain number, the mask level at entry, and how many cells and rows were lent

@@ -1,5 +1,5 @@
 -- One call that is refused, one that waits, and one that has another outcome: what the law needs of each. Assumes nothing.
-use Rattle.std.proofs.Common.{◌≡◌, ℕ, ◌/◌, ◌<◌, Bool, true, false, ◌&&◌, eqb, ◌≢◌, ◌⊎◌, ◌↔◌, List, length, set, Some, None, sym, refl, ap, ◌∙◌, subst, inl, inr, arith, length-set}
+use Rattle.std.proofs.Common.{◌≡◌, ℕ, ◌<◌, Bool, true, false, ◌&&◌, eqb, ◌≢◌, ◌⊎◌, ◌↔◌, List, length, Some, None, sym, refl, ap, ◌∙◌, subst, inl, inr, arith, length-set}
 use Rattle.std.proofs.lemmas.Bool.{and_parts, both_ways, cases_eq, eqb-true, eq-eqb}
 use Rattle.basis.specs.declared.refusal.Refusal.{Refusal}
 use Rattle.basis.specs.declared.refusal.Refusal.TheVariants.{BadLink}
@@ -10,7 +10,7 @@ use Rattle.ledger.specs.Ledger as plain
 use Rattle.ledger.specs.Ledger.{Ledger, nothing, waited, seated, holding, steps, reply, replied}
 use Rattle.ledger.specs.Law.{Event, isAccepted, isFinal, steps_of, endsOf, beginsOf, changedBeside}
 use Rattle.ledger.proofs.Lawful as generic
-use Rattle.list_law.specs.Call.{Row, State, Memory, memory, memoryOf, row_at, anchorAfter, rowsAfter}
+use Rattle.list_law.specs.Call.{State, Memory, memory, memoryOf, row_at, anchorAfter, rowsAfter}
 use Rattle.ledger.specs.Keys.{Permuted}
 use Rattle.list_law.specs.Law.{Entry, keys, Rule, listIndex}
 use Rattle.list_law.proofs.Lists.{clash}

@@ -1,5 +1,5 @@
 -- Over a scheme whose acts are a function of its state, the answers of calls made in turn are computed from that state. Assumes nothing.
-use Rattle.std.proofs.Common.{◌≡◌, ℕ, Bool, List, [], ◌∷◌, Some, None, Option, sym, refl, ap, ◌∙◌, subst}
+use Rattle.std.proofs.Common.{◌≡◌, ℕ, Bool, List, [], ◌∷◌, Some, None, Option, refl, ap, ◌∙◌}
 use Rattle.basis.specs.declared.refusal.Refusal.{Refusal}
 use Rattle.basis.specs.declared.answer.Answer.{Answer}
 use Rattle.marks.specs.Meaning.{Table, Order, Along}

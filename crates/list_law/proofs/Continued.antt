@@ -1,13 +1,12 @@
 -- Whoever does what a call does, and makes what a making makes, goes on with every run lawfully. Assumes nothing.
-use Rattle.std.proofs.Common.{◌≡◌, ℕ, Bool, ◌⊎◌, List, [], ◌∷◌, length, refl, inl, inr}
+use Rattle.std.proofs.Common.{◌≡◌, ℕ, Bool, List, [], ◌∷◌, length, refl, inl, inr}
 use Rattle.basis.specs.declared.answer.Answer.{Answer}
 use Rattle.keys.specs.Total.{Total}
 use Rattle.marks.specs.Meaning.{Table, Order}
 use Rattle.ledger.specs.Ledger.{Call}
-use Rattle.ledger.specs.Law.{Run, made, more}
+use Rattle.ledger.specs.Law.{made, more}
 use Rattle.list_law.specs.Call.{State, Did}
 use Rattle.list_law.specs.Runs.{Made, Lent, Next}
-use Rattle.list_law.specs.Law.{listIndex}
 use Rattle.list_law.specs.Continued.{Lendable, ownAfter, happened, Begins, Continues}
 use Rattle.list_law.proofs.Lawful.{law}
 

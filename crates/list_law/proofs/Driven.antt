@@ -1,5 +1,5 @@
 -- One call more of a driven index. Assumes nothing.
-use Rattle.std.proofs.Common.{◌≡◌, ℕ, Bool, List, [], ◌∷◌, ◌++◌, map, length, sym, refl, ap, ◌∙◌, subst, inl}
+use Rattle.std.proofs.Common.{◌≡◌, ℕ, Bool, List, [], ◌∷◌, ◌++◌, sym, refl, ap, ◌∙◌, subst, inl}
 use Rattle.std.proofs.lemmas.List.{map_push}
 use Rattle.basis.specs.declared.answer.Answer.{Answer}
 use Rattle.marks.specs.Meaning.{Table, Order}
@@ -7,7 +7,7 @@ use Rattle.ledger.specs.Ledger.{Call}
 use Rattle.list_law.specs.Call.{State, Did}
 use Rattle.list_law.specs.Performed.{Ask, called}
 use Rattle.list_law.specs.Continued.{happened, Begins, Continues}
-use Rattle.list_law.specs.Driven.{asked, callsIn, answersIn, InTurn, Driven}
+use Rattle.list_law.specs.Driven.{asked, InTurn, Driven}
 
 module _ {K M : Type 0} (below : K → K → Bool) (table : M → Table) (strict : Bool) (acts : Order → M → M → Type 0) where
   -- one call more, after those made

@@ -1,12 +1,10 @@
 -- The law of every singly linked index. Assumes nothing.
-use Rattle.std.proofs.Common.{◌≡◌, ℕ, suc, ◌+◌, ◌*◌, ◌/◌, ◌≤◌, Bool, ◌↔◌, List, ◌∷◌, Some, Option, ◌∙◌, subst, arith}
-use Rattle.basis.specs.declared.answer.Answer.TheVariants.{Wait}
+use Rattle.std.proofs.Common.{ℕ, suc, ◌+◌, ◌*◌, ◌/◌, Bool, List, ◌∷◌, ◌∙◌, subst, arith}
 use Rattle.keys.specs.Total.{Total}
 use Rattle.marks.specs.Meaning.{Table, Order}
 use Rattle.ledger.specs.Law.{Event, Run, more, fed}
 use Rattle.ledger.proofs.Lawful as generic
 use Rattle.list_law.specs.Call.{State}
-use Rattle.ledger.specs.Keys.{between}
 use Rattle.list_law.specs.Law.{Law, Windows, Waits, listIndex}
 use Rattle.list_law.proofs.Invariant.{Inv, sound-of}
 use Rattle.list_law.proofs.Width.{reach-is, most}

@@ -1,12 +1,12 @@
 -- A making that works as defined begins a run. Assumes nothing.
-use Rattle.std.proofs.Common.{◌≡◌, ℕ, zero, suc, ◌+◌, ◌<◌, ◌≤◌, Bool, true, false, ◌&&◌, eqb, leb, ◌≢◌, List, length, None, sym, refl, ap, ◌∙◌, subst, ⊎_elim, arith}
+use Rattle.std.proofs.Common.{◌≡◌, ℕ, zero, suc, ◌+◌, ◌<◌, ◌≤◌, Bool, true, false, ◌&&◌, eqb, leb, List, length, None, sym, refl, ap, ◌∙◌, ⊎_elim, arith}
 use Rattle.std.proofs.lemmas.Bool.{and_parts, leb-true, eqb-true, cases_eq, both_ways, cond-true, cond-false}
 use Rattle.basis.specs.declared.refusal.Refusal.TheVariants.{WrongSizes}
 use Rattle.basis.specs.declared.answer.Answer.TheVariants.{Ok, Refused}
 use Rattle.keys.specs.Total.{Total}
-use Rattle.marks.specs.Meaning.{Table, Order, release, Along}
+use Rattle.marks.specs.Meaning.{Table, Order, Along}
 use Rattle.list_law.specs.Call.{Cell, State, Obeys}
-use Rattle.list_law.specs.Runs.{Sized, Made}
+use Rattle.list_law.specs.Runs.{Sized}
 use Rattle.list_law.specs.Continued.{Begins}
 use Rattle.list_law.specs.Making.{makes, releases, releases-from, made_of, Makes}
 use Rattle.list_law.proofs.Continued.{begins}

@@ -1,5 +1,5 @@
 -- A call on the index's own cells and rows, by its effect: nothing changed, cells as they were, or a wait. Assumes nothing.
-use Rattle.std.proofs.Common.{◌≡◌, ℕ, suc, pred, ◌/◌, ◌<◌, ◌≤◌, Bool, true, false, ◌≢◌, ◌⊎◌, List, ◌∷◌, ◌++◌, length, set, Some, None, Option, sym, refl, ap, ◌∙◌, subst, inl, inr, arith}
+use Rattle.std.proofs.Common.{◌≡◌, ℕ, suc, pred, ◌<◌, ◌≤◌, Bool, true, false, ◌≢◌, ◌⊎◌, List, ◌∷◌, ◌++◌, length, Some, None, sym, refl, ap, ◌∙◌, subst, inl, inr, arith}
 use Rattle.std.proofs.lemmas.Bool.{both_ways, cases_eq, eq-eqb}
 use Rattle.basis.specs.declared.kind.Kind.{Kind}
 use Rattle.basis.specs.declared.refusal.Refusal.{Refusal}
@@ -11,9 +11,8 @@ use Rattle.keys.specs.Total.{Total}
 use Rattle.ledger.specs.Ledger as plain
 use Rattle.ledger.specs.Ledger.{Ledger, step, nothing, seated, steps, reply, replied}
 use Rattle.ledger.specs.Law.{Event, isAccepted, isFinal, steps_of, beginsOf}
-use Rattle.list_law.specs.Call.{reach, Link, Row, running, State, memory, memoryOf, row_at, Effect, effect, Obeys, Did, anchorAfter, rowsAfter, refused, waiting}
-use Rattle.ledger.specs.Keys.{between}
-use Rattle.list_law.specs.Law.{Entry, entry, Rule, Waits, Meets, firstLink, beyond}
+use Rattle.list_law.specs.Call.{reach, State, memory, memoryOf, row_at, Effect, effect, Obeys, Did, anchorAfter, rowsAfter, refused, waiting}
+use Rattle.list_law.specs.Law.{Entry, entry, Rule, Waits}
 use Rattle.list_law.proofs.Shape.{Shape}
 use Rattle.list_law.proofs.Marks.{Stands, In, stands-kept, kept-strict, kept-or-none, moved}
 use Rattle.list_law.proofs.Walk.{Started}

@@ -1,5 +1,5 @@
 -- One window of a running seat: each end of its walk, for each kind, against the ledger. Assumes nothing.
-use Rattle.std.proofs.Common.{◌≡◌, ℕ, pred, ◌<◌, ◌≤◌, Bool, true, false, cond, ◌||◌, eqb, ◌≢◌, ◌⊎◌, List, [], ◌∷◌, ◌++◌, length, set, Some, None, Option, sym, refl, ap, ◌∙◌, subst, inl, inr, append_assoc, arith}
+use Rattle.std.proofs.Common.{◌≡◌, ℕ, pred, ◌<◌, ◌≤◌, Bool, true, false, cond, ◌||◌, eqb, ◌≢◌, ◌⊎◌, List, [], ◌∷◌, ◌++◌, length, Some, None, Option, sym, refl, ap, ◌∙◌, subst, inl, inr, append_assoc, arith}
 use Rattle.std.proofs.lemmas.Bool.{both_ways, eq-eqb, ne_eqb}
 use Rattle.std.specs.List.{slice_get}
 use Rattle.basis.specs.declared.kind.Kind.{Kind}
@@ -11,7 +11,7 @@ use Rattle.keys.specs.Total.{Total}
 use Rattle.ledger.specs.Ledger as plain
 use Rattle.ledger.specs.Ledger.{Ledger, step, nothing, seated, holding, reply, replied, operated, stepped, holds, without}
 use Rattle.ledger.specs.Law.{Event, isAccepted, isFinal, alters, changedBeside}
-use Rattle.list_law.specs.Call.{reach, anchorAfter, rowsAfter, Link, cell, State, Memory, memory, memoryOf, Met, present, absent, walked, Effect, effect, Obeys, Did, ended, waiting, unlinked, removed, inserted, taken, takenFrom, decided, window}
+use Rattle.list_law.specs.Call.{reach, anchorAfter, rowsAfter, Link, cell, State, Memory, memoryOf, Met, present, absent, walked, Effect, effect, Obeys, Did, ended, waiting, unlinked, removed, inserted, taken, takenFrom, decided, window}
 use Rattle.ledger.specs.Keys.{Every, Rises, Permuted, keep, then}
 use Rattle.list_law.specs.Law.{Entry, entry, keys, Leads, Rule}
 use Rattle.ledger.proofs.Perms.{permuted-middle, length-permuted, holds-permuted, without-permuted}

@@ -1,6 +1,6 @@
 -- What one call does to the cells, rows, anchor and marks of a singly linked index: for every input, cells from elsewhere (any
 -- links, flags and keys) included. Assumes nothing.
-use Rattle.std.specs.Prelude.{◌≡◌, ℕ, zero, suc, pred, Bool, true, false, cond, not, ◌&&◌, List, [], ◌∷◌, length, set, Some, None, Option, ◌==◌, nat_le, nat_lt, slice_set}
+use Rattle.std.specs.Prelude.{◌≡◌, ℕ, zero, suc, pred, Bool, true, false, cond, not, ◌&&◌, List, [], ◌∷◌, length, Some, None, Option, ◌==◌, nat_le, nat_lt, slice_set}
 use Rattle.std.specs.List.{slice_get}
 use Rattle.basis.specs.declared.kind.Kind.{Kind}
 use Rattle.basis.specs.declared.kind.Kind.TheVariants.{Lookup, Insert, Remove}

@@ -1,5 +1,5 @@
 -- One turn of each loop of making, and the whole of it. Assumes nothing.
-use Rattle.std.proofs.Common.{◌≡◌, ℕ, zero, suc, ◌+◌, ◌<◌, ◌≤◌, Bool, false, cond, ltb, List, [], ◌∷◌, ◌++◌, map, length, take, set, replicate, Some, None, sym, refl, ap, ◌∙◌, subst, add-zero, add-suc, suc-add, zero-add, add-one, arith}
+use Rattle.std.proofs.Common.{◌≡◌, ℕ, zero, suc, ◌+◌, ◌<◌, false, List, [], ◌∷◌, ◌++◌, map, length, take, set, replicate, Some, sym, refl, ap, ◌∙◌, subst, add-zero, add-suc, suc-add, add-one, arith}
 use Rattle.std.specs.List.{slice_get}
 use Rattle.std.proofs.lemmas.List.{length-map, take_more_set, take_all, map_push, replicate_more}
 use Rattle.std.proofs.lemmas.Bool.{lt-ltb, le-ltb, cond-true, cond-false}

@@ -1,6 +1,6 @@
 -- Requests and turns, as the definitions of one call have them. Assumes nothing.
-use Rattle.std.specs.Prelude.{ℕ, Bool, true, false, cond, List, [], ◌∷◌}
-use Rattle.marks.specs.Meaning.{Order, release}
+use Rattle.std.specs.Prelude.{ℕ, cond, [], ◌∷◌}
+use Rattle.marks.specs.Meaning.{release}
 use Rattle.ledger.specs.Ledger.{What, join, leave, begin, step, abandon}
 use Rattle.list_window.specs.declared.turn.Request as declared-request
 use Rattle.list_window.specs.declared.turn.Request.TheVariants as request

@@ -1,6 +1,6 @@
 -- The meaning of a scheme: for each of the sixteen seats its mark, and what each order may make of the marks.
 -- Assumes nothing.
-use Rattle.std.specs.Prelude.{◌≡◌, ℕ, ◌<◌, Bool, true, false, ◌≢◌, ◌⊎◌, List, [], ◌∷◌, Some, None, Option}
+use Rattle.std.specs.Prelude.{◌≡◌, ℕ, ◌<◌, Bool, false, ◌≢◌, ◌⊎◌, List, [], ◌∷◌, Some, None, Option}
 
 -- for each seat number the place that the seat has marked, or none; only the entries below 16 mean anything
 abbrev pub Table : Type 0

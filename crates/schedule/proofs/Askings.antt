@@ -1,14 +1,14 @@
 -- One asking against the written form: what is written is handed out, and what is handed out was written. Assumes nothing.
-use Rattle.std.proofs.Common.{◌≡◌, ℕ, ◌+◌, ◌-◌, ◌/◌, ◌%◌, ◌<◌, ◌≤◌, Bool, true, false, cond, ltb, ◌⊎◌, List, [], ◌∷◌, ◌++◌, length, take, drop, Some, None, Option, sym, refl, ap, ◌∙◌, subst, inl, inr, arith}
+use Rattle.std.proofs.Common.{◌≡◌, ℕ, ◌+◌, ◌-◌, ◌/◌, ◌%◌, ◌<◌, ◌≤◌, Bool, true, false, cond, ltb, List, [], ◌∷◌, ◌++◌, length, take, drop, Some, None, Option, sym, refl, ap, ◌∙◌, subst, arith}
 use Rattle.std.proofs.ByRecursion.{All-take, All-drop}
 use Rattle.std.proofs.lemmas.List.{take_at, drop_at, length-append, length-take-le, length-drop, take-append-drop}
 use Rattle.std.proofs.lemmas.Bool.{le-ltb, ltb-false, cond-true, cond-false}
 use Rattle.records.specs.declared.record.Record.{Record}
-use Rattle.records.specs.Records.{two, from-two, fields, written, Fits, decoded}
-use Rattle.schedule.specs.Reading.{Entry, entry, Reading, handed, ended, malformed, in_place, if-in-place, content-at, cut_of, placed, parted, next_of}
+use Rattle.records.specs.Records.{two, from-two, fields, written, decoded}
+use Rattle.schedule.specs.Reading.{Entry, entry, handed, ended, malformed, in_place, if-in-place, content-at, cut_of, placed, parted, next_of}
 use Rattle.schedule.specs.Schedules.{Bytes, Begins-none}
 use Rattle.schedule.proofs.Cuts.{hands}
-use Rattle.schedule.proofs.Writes.{from-two-two, two-from-two, decoded-fields, decoded-says, none_left}
+use Rattle.schedule.proofs.Writes.{from-two-two, two-from-two, decoded-fields, none_left}
 
 -- what is written of a record in its place is handed out
 pub next-written : (first : Bool) (total : ℕ) (r : Record) (more : List ℕ) → in_place first r ≡ true → next_of first total (written r ++ more) ≡ handed (entry (total - length more - length (fields r)) (fields r) r) more

@@ -1,6 +1,6 @@
 -- What the loop over a whole schedule keeps: the records so far, and what is still read of the bytes left, are all of it.
 -- Assumes nothing.
-use Rattle.std.proofs.Common.{◌≡◌, ℕ, zero, suc, ◌-◌, ◌<◌, ◌≤◌, Bool, true, false, List, [], ◌∷◌, ◌++◌, map, length, get_or, Some, None, vec_items, Option, sym, refl, ap, ◌∙◌, subst, append_assoc, append-nil, arith, w8, Fits}
+use Rattle.std.proofs.Common.{◌≡◌, ℕ, zero, suc, ◌-◌, ◌<◌, ◌≤◌, Bool, true, false, List, [], ◌∷◌, ◌++◌, map, length, get_or, Some, None, vec_items, sym, refl, ap, ◌∙◌, append_assoc, append-nil, arith, w8, Fits}
 use Rattle.std.proofs.ByRecursion.{All-from_get_or}
 use Rattle.std.specs.Option.{option_map}
 use Rattle.basis.specs.declared.refusal.Refusal.{Refusal}
@@ -8,11 +8,10 @@ use Rattle.basis.specs.Told.{Case}
 use Rattle.basis.specs.Refusals.{refusal}
 use Rattle.schedule.specs.declared.reader.Part.{Part}
 use Rattle.schedule.specs.declared.reader.Reader.{Reader}
-use Rattle.schedule.specs.declared.reader.Outcome.{Outcome}
 use Rattle.schedule.specs.declared.reader.Outcome.TheVariants.{Handed, Ended, Refused}
 use Rattle.schedule.specs.declared.contents.Contents.{Contents}
 use Rattle.schedule.specs.Reading.{Entry, entry, Reading, handed, ended, malformed, next_of, reading, outcome, due, content-due, left_after, first-after, Asked, open-refusal}
-use Rattle.schedule.specs.Schedules.{Listing, listing, read_more, read-on, read_all, still, Bytes, Stops}
+use Rattle.schedule.specs.Schedules.{listing, read_more, read-on, read_all, still, Bytes, Stops}
 use Rattle.schedule.specs.Whole.{seen, stop-number, entries-of, refusal-of, stop-of, Holds}
 use Rattle.schedule.proofs.Askings.{next-handed}
 use Rattle.schedule.proofs.Trips.{nothing-lost}

@@ -1,5 +1,5 @@
 -- Reading a whole schedule: the three laws, each by induction on the number of askings. Assumes nothing.
-use Rattle.std.proofs.Common.{◌≡◌, ℕ, zero, suc, ◌+◌, ◌-◌, ◌*◌, ◌/◌, ◌%◌, ◌^◌, ◌<◌, ◌≤◌, Bool, true, false, cond, eqb, ltb, ◌⊎◌, List, [], ◌∷◌, ◌++◌, length, Some, None, Option, sym, refl, ap, ◌∙◌, subst, inl, inr, arith, lit<}
+use Rattle.std.proofs.Common.{◌≡◌, ℕ, zero, suc, ◌+◌, ◌-◌, ◌*◌, ◌^◌, ◌<◌, ◌≤◌, Bool, true, false, cond, eqb, ltb, ◌⊎◌, List, [], ◌∷◌, ◌++◌, length, Some, None, Option, sym, refl, ap, ◌∙◌, subst, inl, inr, arith, lit<}
 use Rattle.std.proofs.lemmas.List.{append_assoc, length-append}
 use Rattle.std.proofs.ByRecursion.{All-append}
 use Rattle.std.proofs.lemmas.Bool.{cond-false, le-ltb, eqb-true}
@@ -11,8 +11,8 @@ use Rattle.records.specs.declared.record.SchemeName.TheVariants.{Full, Owner, Ve
 use Rattle.records.specs.declared.record.Record.{Record}
 use Rattle.records.specs.declared.record.Record.TheVariants.{Setup, Join, Leave, Begin, Step, Abandon}
 use Rattle.records.specs.Records.{scheme, begin, two, four, fields, written, Fits}
-use Rattle.schedule.specs.Reading.{Entry, entry, Reading, handed, ended, malformed, in_place, next_of, no-first-byte, open-refusal}
-use Rattle.schedule.specs.Schedules.{Listing, listing, read_more, read-on, read_all, schedule, Lawful, entries_at, still, Bytes, Begins-none, Round-trip, Accounted, Nothing-lost, Stops, Reading-ends}
+use Rattle.schedule.specs.Reading.{Entry, entry, Reading, handed, ended, malformed, next_of, no-first-byte, open-refusal}
+use Rattle.schedule.specs.Schedules.{Listing, listing, read_more, read-on, schedule, Lawful, entries_at, still, Bytes, Begins-none, Round-trip, Nothing-lost, Stops, Reading-ends}
 use Rattle.schedule.proofs.Writes.{decoded-says, none_left}
 use Rattle.schedule.proofs.Askings.{next-written, Handed, next-handed, next-malformed, next-ended}
 

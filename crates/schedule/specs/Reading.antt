@@ -1,9 +1,8 @@
 -- What the reader does: how it opens, and what one asking gives. Assumes nothing.
-use Rattle.std.specs.Prelude.{◌≡◌, ℕ, ◌-◌, Bool, true, false, cond, not, List, [], ◌∷◌, ◌++◌, length, take, drop, Some, None, codes, Option, ◌==◌, nat_lt}
+use Rattle.std.specs.Prelude.{◌≡◌, ℕ, ◌-◌, Bool, true, false, cond, not, List, [], ◌∷◌, length, take, drop, Some, None, codes, Option, ◌==◌, nat_lt}
 use Rattle.basis.specs.Told.{Case, told}
 use Rattle.basis.specs.Refusals.{refusal}
 use Rattle.records.specs.declared.record.Record.{Record}
-use Rattle.schedule.specs.declared.reader.Part.{Part}
 use Rattle.schedule.specs.declared.reader.Reader.{Reader}
 use Rattle.schedule.specs.declared.reader.Outcome.{Outcome}
 use Rattle.schedule.specs.declared.reader.Outcome.TheVariants.{Handed, Ended, Refused}

@@ -6,7 +6,7 @@ use Rattle.basis.specs.Refusals.{refusal}
 use Rattle.schedule.specs.declared.reader.Part.{Part}
 use Rattle.schedule.specs.declared.contents.Contents.{Contents}
 use Rattle.schedule.specs.Reading.{Entry, entry, Reading, handed, ended, malformed, next_of, open-refusal}
-use Rattle.schedule.specs.Schedules.{Listing, listing, read_all, still, Accounted}
+use Rattle.schedule.specs.Schedules.{read_all, still, Accounted}
 
 -- a part that was handed out, as the definitions have it
 abbrev pub seen : Part → Entry

@@ -1,5 +1,5 @@
 -- Worked examples of the schemes and of the keys, over the definitions that their contracts cite. Assumes nothing.
-use Rattle.std.specs.Prelude.{◌≡◌, ℕ, true, false, Some, None}
+use Rattle.std.specs.Prelude.{◌≡◌, true, false, Some, None}
 use Rattle.keys.specs.Wear.{wear, wear-below}
 use Rattle.marks.specs.Meaning.Order.{reserve, revoke}
 use Rattle.marks.specs.Spread.{slot}

@@ -2,10 +2,9 @@
 use Rattle.std.proofs.Common.{◌≡◌, ℕ, ◌<◌, Bool, List, [], ◌∷◌, ◌++◌, map, length, get_or, set, Some, sym, refl, ap, ◌∙◌, append_assoc, append-nil}
 use Rattle.std.proofs.lemmas.List.{map_push, length-map, map-set, get_or-map, set-get_or}
 use Rattle.basis.specs.declared.answer.Answer.{Answer}
-use Rattle.keys.specs.declared.wear.Wear.{Wear}
 use Rattle.keys.specs.Wear.{wear-below}
 use Rattle.marks.specs.Meaning.{Table, Order}
-use Rattle.list_law.specs.Performed.{Ask, called}
+use Rattle.list_law.specs.Performed.{called}
 use Rattle.list_law.specs.Driven as driven
 use Rattle.list_law.specs.Driven.{Driven}
 use Rattle.list_law.proofs.Driven.{driven-more, driven-as}

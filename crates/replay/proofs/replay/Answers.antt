@@ -1,5 +1,5 @@
 -- The bytes are not opened, or else their records are answered.
-use Rattle.std.proofs.Common.{◌≡◌, List, vec_items, string_bytes, ap, ◌∙◌, subst}
+use Rattle.std.proofs.Common.{List, vec_items, string_bytes, ap, ◌∙◌, subst}
 use Rattle.std.proofs.lemmas.Result.{IfOk-weaker}
 use Rattle.schedule.specs.declared.reader.Part.{Part}
 use Rattle.schedule.specs.Lines.{lines_from}

@@ -1,7 +1,6 @@
 use Rattle.std.proofs.Common.{sym, rules}
 use Rattle.std.proofs.lemmas.List.{length-map}
 use Rattle.keys.specs.Total.{Total}
-use Rattle.list_law.specs.Call.{Did}
 use Rattle.list_law.proofs.Continued.{continues}
 use Rattle.list_cells.specs.Views.{cell-of}
 use Rattle.list_window.specs.Rows.{row_of}
@@ -9,7 +8,6 @@ use Rattle.list_window.specs.Turns.{what-of}
 use Rattle.list.specs.Calls.{call-of}
 use Rattle.list_window.specs.Applied.{state-of}
 use Rattle.list.proofs.Effects.{did-refuse, did-perform}
-use Rattle.list.proofs.call.make_call.Given as given
 use Rattle.list.proofs.call.make_call.Goals as goal
 
 pub returns-in-Err : goal.returns-in-Err

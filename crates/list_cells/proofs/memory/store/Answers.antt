@@ -1,4 +1,4 @@
-use Rattle.std.proofs.Common.{map, set, sym, ap, ◌∙◌, subst, arith}
+use Rattle.std.proofs.Common.{map, set, ap, ◌∙◌, arith}
 use Rattle.list_cells.specs.Views.{cell-of}
 use Rattle.list_cells.proofs.Viewed.{stored, not-stored}
 use Rattle.list_cells.proofs.memory.store.Goals as goal

@@ -1,5 +1,5 @@
 -- Each turn is one call more of the run, and one answer more.
-use Rattle.std.proofs.Common.{◌≡◌, List, [], ◌∷◌, ◌++◌, map, length, take, sym, refl, ap, ◌∙◌, arith}
+use Rattle.std.proofs.Common.{◌≡◌, [], ◌∷◌, ◌++◌, map, length, take, sym, ap, ◌∙◌, arith}
 use Rattle.std.proofs.lemmas.List.{take_all, take_more, take_more_set, get_or-map, length-map}
 use Rattle.list_law.specs.Performed.{called}
 use Rattle.list_law.specs.Driven.{asked}

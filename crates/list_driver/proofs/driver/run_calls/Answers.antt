@@ -1,5 +1,5 @@
 -- Making begins the run that the calls go on with.
-use Rattle.std.proofs.Common.{◌≡◌, ℕ, Bool, true, eqb, List, map, length, sym, refl, ap, ◌∙◌, subst, rules}
+use Rattle.std.proofs.Common.{◌≡◌, ℕ, true, eqb, List, map, length, sym, refl, ap, ◌∙◌, subst, rules}
 use Rattle.std.proofs.lemmas.List.{length-map}
 use Rattle.std.proofs.lemmas.Bool.{both_ways, cond-true, cond-false, and_parts, eqb-true}
 use Rattle.basis.specs.declared.answer.Answer.{Answer}
@@ -11,7 +11,6 @@ use Rattle.list_window.specs.Rows.{row_of}
 use Rattle.list_window.specs.Applied.{state-of}
 use Rattle.list_driver.specs.Asks.{ask-of, runnable}
 use Rattle.list_making.proofs.Makes.{viewed}
-use Rattle.list_driver.proofs.driver.run_calls.Given as given
 use Rattle.list_driver.proofs.driver.run_calls.Goals as goal
 use Rattle.list_driver.proofs.driver.run_calls.Goals.{After-make}
 

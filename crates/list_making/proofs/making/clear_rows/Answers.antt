@@ -1,4 +1,4 @@
-use Rattle.std.proofs.Common.{◌∙◌, arith}
+use Rattle.std.proofs.Common.{arith}
 use Rattle.list_making.proofs.Makes.{rows_more, rows_all}
 use Rattle.list_making.proofs.making.clear_rows.Goals as goal
 

@@ -1,8 +1,8 @@
 -- Making refuses sizes that do not fit, and else leaves what the definition says.
-use Rattle.std.proofs.Common.{◌≡◌, ℕ, ◌≤◌, Bool, List, [], ◌∷◌, map, length, replicate, Some, None, sym, refl, ap, ◌∙◌, arith}
+use Rattle.std.proofs.Common.{◌≡◌, ◌≤◌, List, [], ◌∷◌, map, length, replicate, Some, None, sym, refl, ap, ◌∙◌, arith}
 use Rattle.std.proofs.lemmas.List.{length-map}
 use Rattle.keys.specs.Total.{Total}
-use Rattle.list_law.specs.Call.{Link, State, away}
+use Rattle.list_law.specs.Call.{Link, away}
 use Rattle.list_law.specs.Runs.{onward}
 use Rattle.list_law.proofs.Made.{fits, makes-refused, makes-accepted}
 use Rattle.list_cells.specs.Views.{cell-of}

@@ -1,4 +1,4 @@
-use Rattle.std.proofs.Common.{◌+◌, sym, ap, ◌∙◌, subst, zero-add, add-one}
+use Rattle.std.proofs.Common.{◌+◌, sym, ◌∙◌, subst, zero-add, add-one}
 use Rattle.marks.specs.Meaning.{Along, release}
 use Rattle.list_law.specs.Call.{Obeys}
 use Rattle.list_law.specs.Making.{releases-from}

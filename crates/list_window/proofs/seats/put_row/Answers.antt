@@ -1,4 +1,4 @@
-use Rattle.std.proofs.Common.{map, length, set, sym, ap, ◌∙◌, arith}
+use Rattle.std.proofs.Common.{map, set, sym, ap, ◌∙◌, arith}
 use Rattle.std.proofs.lemmas.List.{map-set, set_past, length-map}
 use Rattle.list_window.specs.Rows.{row_of, doing_of}
 use Rattle.list_window.proofs.seats.put_row.Goals as goal

@@ -1,5 +1,5 @@
 -- A setup is refused or accepted; the answers of the calls follow it, and the refusal at which reading stopped comes last.
-use Rattle.std.proofs.Common.{◌≡◌, List, ◌∷◌, ◌++◌, map, vec_items, ap, ◌∙◌, subst}
+use Rattle.std.proofs.Common.{List, ◌∷◌, ◌++◌, map, vec_items, ap, ◌∙◌, subst}
 use Rattle.std.proofs.lemmas.Result.{IfOk-weaker}
 use Rattle.basis.specs.declared.answer.Answer.TheVariants.{Ok}
 use Rattle.keys.specs.declared.sector.Sector.{Sector}

@@ -1,7 +1,6 @@
 -- Each turn hands out one record more, and leaves fewer bytes.
-use Rattle.std.proofs.Common.{◌≡◌, [], ◌∷◌, ◌++◌, map, Some, vec_items, sym, refl, ap, ◌∙◌, subst, arith}
+use Rattle.std.proofs.Common.{map, Some, vec_items, sym, ap, ◌∙◌, subst, arith}
 use Rattle.std.proofs.lemmas.List.{map_push}
-use Rattle.schedule.specs.Reading.{reading}
 use Rattle.schedule.specs.Schedules.{Stops}
 use Rattle.schedule.specs.Whole.{seen, stop-number}
 use Rattle.schedule.proofs.Askings.{next-handed}

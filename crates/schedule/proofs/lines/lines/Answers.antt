@@ -1,5 +1,5 @@
 -- Each turn adds the line of one answer more.
-use Rattle.std.proofs.Common.{◌≡◌, ◌+◌, ◌++◌, length, get_or, take, sym, refl, ap, ◌∙◌, arith, rules}
+use Rattle.std.proofs.Common.{◌+◌, ◌++◌, get_or, take, sym, ap, ◌∙◌, arith, rules}
 use Rattle.std.proofs.lemmas.List.{take_all, take_more, length-take-le}
 use Rattle.basis.specs.declared.answer.Answer.TheVariants.{No}
 use Rattle.schedule.specs.Lines.{lines_from}

@@ -1,7 +1,7 @@
 -- Where a record is handed out, the definition hands out the same one.
-use Rattle.std.proofs.Common.{◌≡◌, ◌-◌, ◌∷◌, length, codes, sym, refl, ap, ◌∙◌, arith}
+use Rattle.std.proofs.Common.{◌≡◌, ◌-◌, ◌∷◌, length, codes, sym, ap, ◌∙◌, arith}
 use Rattle.basis.specs.Told.{told}
-use Rattle.schedule.specs.Reading.{reading, handed, entry, due, content-due, left_after, first-after}
+use Rattle.schedule.specs.Reading.{due, content-due, left_after, first-after}
 use Rattle.schedule.proofs.Cuts.{hands}
 use Rattle.schedule.proofs.reader.Reader.next.Goals as goal
 
