@@ -1,6 +1,6 @@
 -- A whole schedule: how it is written, how it is read, and that the two agree. Assumes nothing.
 use Rattle.std.specs.Prelude.{◌≡◌, ℕ, zero, suc, ◌+◌, ◌*◌, ◌<◌, ◌≤◌, Bool, true, false, ◌⊎◌, List, [], ◌∷◌, ◌++◌, length, None, ◌≢◌}
-use Rattle.std.specs.List.{flat_map, AllByRecursion as All}
+use Rattle.std.specs.List.{flat_map, AllByRecursion}
 use Rattle.records.specs.declared.record.Record.{Record}
 use Rattle.records.specs.Records.{fields, written, Fits}
 use Rattle.schedule.specs.Reading.{Entry, entry, Reading, handed, ended, malformed, in_place, next_of, open-refusal}
@@ -58,7 +58,7 @@ Begins-none first rest = (r : Record) (more : List ℕ) → Fits r → in_place 
 
 -- the numbers that a byte can be
 abbrev pub Bytes : List ℕ → Type 0
-Bytes = All (λ b. b < 256)
+Bytes = AllByRecursion (λ b. b < 256)
 
 -- what is written is bytes, which are opened and read back: exactly those records, each at its offset, and then the end
 abbrev pub Round-trip : ℕ → Type 0
@@ -74,7 +74,7 @@ pub record Accounted (bytes : List ℕ) : Type 0 where
   pub stops : ((read_all bytes).rest ≡ []) ⊎ Begins-none (still true records) (read_all bytes).rest
 
 abbrev pub Nothing-lost : ℕ → Type 0
-Nothing-lost bound = (bytes : List ℕ) → All (λ b. b < bound) bytes → open-refusal bytes ≡ None → Accounted bytes
+Nothing-lost bound = (bytes : List ℕ) → AllByRecursion (λ b. b < bound) bytes → open-refusal bytes ≡ None → Accounted bytes
 
 -- no record is handed out
 abbrev pub Stops : Reading → Type 0
