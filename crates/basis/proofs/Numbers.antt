@@ -11,19 +11,19 @@ by_number n =
     (cond (eqb n 5) (Some Away) (cond (eqb n 6) (Some AlreadyRunning) (cond (eqb n 7) (Some NotRunning) (cond (eqb n 8) (Some BadLink)
     (cond (eqb n 9) (Some ScheduleTooLong) (cond (eqb n 10) (Some NoVersionByte) (cond (eqb n 11) (Some BadRecord) None))))))))))
 
-found-again : (r : Refusal) → by_number (refusal r).number ≡ Some r
+found_again : (r : Refusal) → by_number (refusal r).number ≡ Some r
 unfolding by_number
-found-again OutOfRange = refl
-found-again WrongSizes = refl
-found-again MaskRaised = refl
-found-again NotAway = refl
-found-again Away = refl
-found-again AlreadyRunning = refl
-found-again NotRunning = refl
-found-again BadLink = refl
-found-again ScheduleTooLong = refl
-found-again NoVersionByte = refl
-found-again BadRecord = refl
+found_again OutOfRange = refl
+found_again WrongSizes = refl
+found_again MaskRaised = refl
+found_again NotAway = refl
+found_again Away = refl
+found_again AlreadyRunning = refl
+found_again NotRunning = refl
+found_again BadLink = refl
+found_again ScheduleTooLong = refl
+found_again NoVersionByte = refl
+found_again BadRecord = refl
 
 pub same_number : (r q : Refusal) → (refusal r).number ≡ (refusal q).number → r ≡ q
-same_number r q e = let h = sym (found-again r) ∙ ap by_number e ∙ found-again q in cc
+same_number r q e = let h = sym (found_again r) ∙ ap by_number e ∙ found_again q in cc

@@ -7,5 +7,5 @@ abbrev pub wear : ℕ → ℕ → Wear
 wear n b = record { count = n; block = b }
 
 -- counts decide first, then blocks
-abbrev pub wear-below : Wear → Wear → Bool
-wear-below x y = nat_lt x.count y.count || (x.count == y.count && nat_lt x.block y.block)
+abbrev pub wear_below : Wear → Wear → Bool
+wear_below x y = nat_lt x.count y.count || (x.count == y.count && nat_lt x.block y.block)

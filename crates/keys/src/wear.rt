@@ -1,7 +1,7 @@
 // Wear keys: how often a block was erased, and which block it is.
 ghost use Rattle.std.specs.Prelude.{◌≡◌, ◌<◌, ◌≤◌, MatchResult};
 ghost use Rattle.basis.specs.Refusals.{refusal};
-ghost use Rattle.keys.specs.Wear.{wear-below, wear};
+ghost use Rattle.keys.specs.Wear.{wear_below, wear};
 ghost use Rattle.std.proofs.Common.{rules};
 
 use crate::key::Key;
@@ -30,7 +30,7 @@ impl Wear {
 
 // Counts decide first, then blocks.
 impl Key for Wear {
-    ghost below = { wear-below };
+    ghost below = { wear_below };
 
     ghost irreflexive = { Prim.search rules };
 

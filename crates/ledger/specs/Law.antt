@@ -54,22 +54,22 @@ Each P (made m) = Unit {0}
 Each P (more {es = es} {s = s} {e = e} {s' = s'} r d) = P es s e s' × Each P r
 
 -- the answer is no refusal
-abbrev pub isAccepted : Answer → Bool
-isAccepted No = true
-isAccepted Yes = true
-isAccepted Ok = true
-isAccepted Wait = true
-isAccepted Full = true
-isAccepted (Refused r) = false
+abbrev pub is_accepted : Answer → Bool
+is_accepted No = true
+is_accepted Yes = true
+is_accepted Ok = true
+is_accepted Wait = true
+is_accepted Full = true
+is_accepted (Refused r) = false
 
 -- the answer ends an operation
-abbrev pub isFinal : Answer → Bool
-isFinal No = true
-isFinal Yes = true
-isFinal Ok = false
-isFinal Wait = false
-isFinal Full = true
-isFinal (Refused r) = false
+abbrev pub is_final : Answer → Bool
+is_final No = true
+is_final Yes = true
+is_final Ok = false
+is_final Wait = false
+is_final Full = true
+is_final (Refused r) = false
 
 abbrev pub is_yes : Answer → Bool
 is_yes No = false
@@ -89,19 +89,19 @@ alters (running Remove x) = true
 
 -- an accepted step of seat t
 abbrev pub steps_of : {K : Type 0} → ℕ → Event K → Bool
-steps_of t e = steps e.call.what && e.call.seat == t && isAccepted e.answer
+steps_of t e = steps e.call.what && e.call.seat == t && is_accepted e.answer
 
 -- a step of seat t that answered yes, no or full
-abbrev pub endsOf : {K : Type 0} → ℕ → Event K → Bool
-endsOf t e = steps e.call.what && e.call.seat == t && isFinal e.answer
+abbrev pub ends_of : {K : Type 0} → ℕ → Event K → Bool
+ends_of t e = steps e.call.what && e.call.seat == t && is_final e.answer
 
 -- an accepted begin of seat t
-abbrev pub beginsOf : {K : Type 0} → ℕ → Event K → Bool
-beginsOf t e = begins e.call.what && e.call.seat == t && isAccepted e.answer
+abbrev pub begins_of : {K : Type 0} → ℕ → Event K → Bool
+begins_of t e = begins e.call.what && e.call.seat == t && is_accepted e.answer
 
 -- a yes to an insert or a remove of another seat than t, by the rows of the ledger before it
-abbrev pub changedBeside : {K : Type 0} → ℕ → Ledger K → Event K → Bool
-changedBeside t a e = steps e.call.what && not (e.call.seat == t) && is_yes e.answer && alters (a.row e.call.seat)
+abbrev pub changed_beside : {K : Type 0} → ℕ → Ledger K → Event K → Bool
+changed_beside t a e = steps e.call.what && not (e.call.seat == t) && is_yes e.answer && alters (a.row e.call.seat)
 
 -- how many events pass a test
 unfoldable pub count : {K : Type 0} → (Event K → Bool) → List (Event K) → ℕ
@@ -111,25 +111,25 @@ count f (e ∷ es) = cond (f e) 1 0 + count f es
 -- how many yes answers other seats than t got to inserts and removes in `later`, events after those of `earlier`
 unfoldable pub changes : {K : Type 0} → (K → K → Bool) → ℕ → ℕ → List (Event K) → List (Event K) → ℕ
 changes below n t [] earlier = 0
-changes below n t (e ∷ later) earlier = cond (changedBeside t (fed below n (later ++ earlier)) e) 1 0 + changes below n t later earlier
+changes below n t (e ∷ later) earlier = cond (changed_beside t (fed below n (later ++ earlier)) e) 1 0 + changes below n t later earlier
 
 -- an operation of seat t, begun at b and not begun again since, that has had `limit` accepted steps has answered yes, no or full
 abbrev pub Bounded : {K : Type 0} → (K → K → Bool) → ℕ → (ℕ → Kind → ℕ → ℕ) → List (Event K) → Type 0
 Bounded {K} below n limit es =
     (t : ℕ) (k : Kind) (x : K) (later : List (Event K)) (b : Event K) (earlier : List (Event K)) →
     es ≡ later ++ b ∷ earlier →
-    b.call.what ≡ begin k x → beginsOf t b ≡ true → count (beginsOf t) later ≡ 0 →
+    b.call.what ≡ begin k x → begins_of t b ≡ true → count (begins_of t) later ≡ 0 →
     limit t k (changes below n t later (b ∷ earlier)) ≤ count (steps_of t) later →
-    1 ≤ count (endsOf t) later
+    1 ≤ count (ends_of t) later
 
 -- what is promised of one event, a being the ledger fed the events before it
 pub record Answers {K : Type 0} (below : K → K → Bool) (x : Index K) (a : Ledger K) (s : x.State) (e : Event K) (s' : x.State) : Type 0 where
   -- it is the ledger's answer
-  pub as-ledger : e.answer ≡ (reply below a e.call e.told).answer
+  pub as_ledger : e.answer ≡ (reply below a e.call e.told).answer
   -- the ledger is told wait exactly where the index answered wait
-  pub told-wait : (e.told ≡ waited) ↔ (e.answer ≡ Wait)
+  pub told_wait : (e.told ≡ waited) ↔ (e.answer ≡ Wait)
   -- no window ever met a bad link
-  pub no-bad-link : e.answer ≢ Refused BadLink
+  pub no_bad_link : e.answer ≢ Refused BadLink
   -- it waits where the rule has it wait, and is then marked there
   pub rule : x.Rule a s e s'
 
@@ -141,7 +141,7 @@ pub record Lawful {K : Type 0} (below : K → K → Bool) (x : Index K) (n w : �
   -- and of each event there is more to say
   pub answers : Each (λ earlier s₁ e s₂. Answers below x (fed below n earlier) s₁ e s₂) r
   -- the cells are sound after each event, and at the end (which may be the making)
-  pub sound-each : Each (λ earlier s₁ e s₂. x.Sound (fed below n (e ∷ earlier)) s₂) r
+  pub sound_each : Each (λ earlier s₁ e s₂. x.Sound (fed below n (e ∷ earlier)) s₂) r
   pub sound : x.Sound (fed below n es) s
   -- over a strict scheme no operation takes longer
   pub bounded : x.strict ≡ true → Bounded below n limit es

@@ -133,20 +133,20 @@ abandons (begin k x) = false
 abandons step = false
 abandons abandon = true
 
-abbrev pub isAway : {K : Type 0} → Row K → Bool
-isAway away = true
-isAway idle = false
-isAway (running k x) = false
+abbrev pub is_away : {K : Type 0} → Row K → Bool
+is_away away = true
+is_away idle = false
+is_away (running k x) = false
 
-abbrev pub isIdle : {K : Type 0} → Row K → Bool
-isIdle away = false
-isIdle idle = true
-isIdle (running k x) = false
+abbrev pub is_idle : {K : Type 0} → Row K → Bool
+is_idle away = false
+is_idle idle = true
+is_idle (running k x) = false
 
-abbrev pub isRunning : {K : Type 0} → Row K → Bool
-isRunning away = false
-isRunning idle = false
-isRunning (running k x) = true
+abbrev pub is_running : {K : Type 0} → Row K → Bool
+is_running away = false
+is_running idle = false
+is_running (running k x) = true
 
 -- the sizes are right: 1 to 1,008 cells, as many as at making, and sixteen rows
 abbrev pub fitting : {K : Type 0} → Ledger K → Call K → Bool
@@ -158,10 +158,10 @@ refusals a c r =
     test (not (nat_lt c.seat 16)) OutOfRange ∷
     test (not (fitting a c)) WrongSizes ∷
     test (not (nat_lt c.level 7)) MaskRaised ∷
-    test (joins c.what && not (isAway r)) NotAway ∷
-    test (not (joins c.what) && isAway r) Away ∷
-    test (begins c.what && isRunning r) AlreadyRunning ∷
-    test ((steps c.what || abandons c.what) && isIdle r) NotRunning ∷ []
+    test (joins c.what && not (is_away r)) NotAway ∷
+    test (not (joins c.what) && is_away r) Away ∷
+    test (begins c.what && is_running r) AlreadyRunning ∷
+    test ((steps c.what || abandons c.what) && is_idle r) NotRunning ∷ []
 
 -- refused, and as it was, or accepted
 abbrev pub ruled : {K : Type 0} → (K → K → Bool) → Ledger K → Call K → Told → Option Refusal → Reply K

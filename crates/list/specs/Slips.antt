@@ -6,7 +6,7 @@ use Rattle.basis.specs.declared.answer.Answer.{Answer}
 use Rattle.basis.specs.declared.answer.Answer.TheVariants.{Ok, Refused}
 use Rattle.list.specs.declared.slip.Slip.{Slip}
 use Rattle.list.specs.declared.slip.Kept.{Kept}
-use Rattle.list_law.specs.Call.{State, away, sizesFit, row_at}
+use Rattle.list_law.specs.Call.{State, away, sizes_fit, row_at}
 
 -- ok with a slip, or a refusal
 abbrev pub joined : Result Slip Refusal → Answer
@@ -21,6 +21,6 @@ left (result.Err kept) = Refused kept.refusal
 -- seat t is held in an index whose sizes are right: its row is not away. So it is after a join that gave a slip, and it stays so until leave
 pub record Held {K M : Type 0} (s : State K M) (t : ℕ) : Type 0 where
   pub seat : t < 16
-  pub cells : sizesFit s.cells s.anchor ≡ true
+  pub cells : sizes_fit s.cells s.anchor ≡ true
   pub rows : length s.rows ≡ 16
   pub row : row_at s.rows t ≢ away

@@ -1,13 +1,13 @@
 // One call: the refusals that look at no row, and then the inner part, under the raised mask.
 ghost use Rattle.std.specs.Prelude.{◌≡◌, true, false, map, length, Some, None, MatchOption, MatchResult, ◌==◌, nat_lt};
 ghost use Rattle.ledger.specs.Tests.{first};
-ghost use Rattle.list_law.specs.Call.{sizesFit, refusals, Did};
+ghost use Rattle.list_law.specs.Call.{sizes_fit, refusals, Did};
 ghost use Rattle.list_law.specs.Continued.{Continues};
-ghost use Rattle.list_cells.specs.Views.{cell-of, anchor-of};
+ghost use Rattle.list_cells.specs.Views.{cell_of, anchor_of};
 ghost use Rattle.list_window.specs.Rows.{row_of};
-ghost use Rattle.list_window.specs.Turns.{what-of};
-ghost use Rattle.list.specs.Calls.{call-of};
-ghost use Rattle.list_window.specs.Applied.{state-of};
+ghost use Rattle.list_window.specs.Turns.{what_of};
+ghost use Rattle.list.specs.Calls.{call_of};
+ghost use Rattle.list_window.specs.Applied.{state_of};
 
 use basis::answer::Answer;
 use basis::mask::{Guard, Mask};
@@ -31,7 +31,7 @@ fn seat_of(seat: u8) -> Option<Seat>
 
 // The sizes of cells and anchor are right.
 fn cells_fit<K: Key>(cells: &[Cell<K>], anchor: &Anchor) -> bool
-    ensures { result ≡ sizesFit (map cell-of cells.now) (anchor-of anchor.now) }
+    ensures { result ≡ sizes_fit (map cell_of cells.now) (anchor_of anchor.now) }
 {
     let count = cells.len();
     (1 <= count)
@@ -63,7 +63,7 @@ fn admit<K: Key, S: Scheme>(
     level: u8,
     request: Request<K>,
 ) -> Result<Seat, Refusal>
-    ensures { MatchResult result (λ t. (t.number ≡ seat) × (first (refusals (state-of cells.now rows.now anchor.now scheme.now) (call-of (what-of request) seat level cells.now rows.now)) ≡ None)) (λ e. first (refusals (state-of cells.now rows.now anchor.now scheme.now) (call-of (what-of request) seat level cells.now rows.now)) ≡ Some e) }
+    ensures { MatchResult result (λ t. (t.number ≡ seat) × (first (refusals (state_of cells.now rows.now anchor.now scheme.now) (call_of (what_of request) seat level cells.now rows.now)) ≡ None)) (λ e. first (refusals (state_of cells.now rows.now anchor.now scheme.now) (call_of (what_of request) seat level cells.now rows.now)) ≡ Some e) }
 {
     let Some(taken) = seat_of(seat) else {
         return Err(Refusal::OutOfRange);
@@ -90,9 +90,9 @@ pub fn make_call<K: Key, S: Scheme>(
     seat: u8,
     request: Request<K>,
 ) -> Answer
-    ensures did { Did K.Key.below S.Scheme.table S.Scheme.strict S.Scheme.acts (state-of cells.old rows.old anchor.old scheme.old) (call-of (what-of request) seat mask.old.level cells.old rows.old) result (state-of cells.new rows.new anchor.new scheme.new) }
+    ensures did { Did K.Key.below S.Scheme.table S.Scheme.strict S.Scheme.acts (state_of cells.old rows.old anchor.old scheme.old) (call_of (what_of request) seat mask.old.level cells.old rows.old) result (state_of cells.new rows.new anchor.new scheme.new) }
     ensures level { mask.new.level ≡ mask.old.level }
-    ensures runs { Continues K.Key.below S.Scheme.table S.Scheme.strict S.Scheme.acts (state-of cells.old rows.old anchor.old scheme.old) (call-of (what-of request) seat mask.old.level cells.old rows.old) result (state-of cells.new rows.new anchor.new scheme.new) }
+    ensures runs { Continues K.Key.below S.Scheme.table S.Scheme.strict S.Scheme.acts (state_of cells.old rows.old anchor.old scheme.old) (call_of (what_of request) seat mask.old.level cells.old rows.old) result (state_of cells.new rows.new anchor.new scheme.new) }
 {
     let level = mask.level;
     let guard = Guard::raise(mask);

@@ -1,10 +1,10 @@
 // The five calls, by plain seat number.
 ghost use Rattle.std.specs.Prelude.{◌≡◌};
-ghost use Rattle.list_window.specs.Turns.{what-of};
+ghost use Rattle.list_window.specs.Turns.{what_of};
 ghost use Rattle.list_law.specs.Call.{Did};
 ghost use Rattle.list_law.specs.Continued.{Continues};
-ghost use Rattle.list.specs.Calls.{call-of};
-ghost use Rattle.list_window.specs.Applied.{state-of};
+ghost use Rattle.list.specs.Calls.{call_of};
+ghost use Rattle.list_window.specs.Applied.{state_of};
 
 use crate::call::make_call;
 use basis::answer::Answer;
@@ -25,9 +25,9 @@ pub fn join<K: Key, S: Scheme>(
     mask: &mut Mask,
     seat: u8,
 ) -> Answer
-    ensures did { Did K.Key.below S.Scheme.table S.Scheme.strict S.Scheme.acts (state-of cells.old rows.old anchor.old scheme.old) (call-of (what-of Request.Join) seat mask.old.level cells.old rows.old) result (state-of cells.new rows.new anchor.new scheme.new) }
+    ensures did { Did K.Key.below S.Scheme.table S.Scheme.strict S.Scheme.acts (state_of cells.old rows.old anchor.old scheme.old) (call_of (what_of Request.Join) seat mask.old.level cells.old rows.old) result (state_of cells.new rows.new anchor.new scheme.new) }
     ensures level { mask.new.level ≡ mask.old.level }
-    ensures runs { Continues K.Key.below S.Scheme.table S.Scheme.strict S.Scheme.acts (state-of cells.old rows.old anchor.old scheme.old) (call-of (what-of Request.Join) seat mask.old.level cells.old rows.old) result (state-of cells.new rows.new anchor.new scheme.new) }
+    ensures runs { Continues K.Key.below S.Scheme.table S.Scheme.strict S.Scheme.acts (state_of cells.old rows.old anchor.old scheme.old) (call_of (what_of Request.Join) seat mask.old.level cells.old rows.old) result (state_of cells.new rows.new anchor.new scheme.new) }
 {
     make_call(cells, rows, anchor, scheme, mask, seat, Request::Join)
 }
@@ -41,9 +41,9 @@ pub fn leave<K: Key, S: Scheme>(
     mask: &mut Mask,
     seat: u8,
 ) -> Answer
-    ensures did { Did K.Key.below S.Scheme.table S.Scheme.strict S.Scheme.acts (state-of cells.old rows.old anchor.old scheme.old) (call-of (what-of Request.Leave) seat mask.old.level cells.old rows.old) result (state-of cells.new rows.new anchor.new scheme.new) }
+    ensures did { Did K.Key.below S.Scheme.table S.Scheme.strict S.Scheme.acts (state_of cells.old rows.old anchor.old scheme.old) (call_of (what_of Request.Leave) seat mask.old.level cells.old rows.old) result (state_of cells.new rows.new anchor.new scheme.new) }
     ensures level { mask.new.level ≡ mask.old.level }
-    ensures runs { Continues K.Key.below S.Scheme.table S.Scheme.strict S.Scheme.acts (state-of cells.old rows.old anchor.old scheme.old) (call-of (what-of Request.Leave) seat mask.old.level cells.old rows.old) result (state-of cells.new rows.new anchor.new scheme.new) }
+    ensures runs { Continues K.Key.below S.Scheme.table S.Scheme.strict S.Scheme.acts (state_of cells.old rows.old anchor.old scheme.old) (call_of (what_of Request.Leave) seat mask.old.level cells.old rows.old) result (state_of cells.new rows.new anchor.new scheme.new) }
 {
     make_call(cells, rows, anchor, scheme, mask, seat, Request::Leave)
 }
@@ -59,9 +59,9 @@ pub fn begin<K: Key, S: Scheme>(
     kind: Kind,
     target: K,
 ) -> Answer
-    ensures did { Did K.Key.below S.Scheme.table S.Scheme.strict S.Scheme.acts (state-of cells.old rows.old anchor.old scheme.old) (call-of (what-of (Request.Begin kind target)) seat mask.old.level cells.old rows.old) result (state-of cells.new rows.new anchor.new scheme.new) }
+    ensures did { Did K.Key.below S.Scheme.table S.Scheme.strict S.Scheme.acts (state_of cells.old rows.old anchor.old scheme.old) (call_of (what_of (Request.Begin kind target)) seat mask.old.level cells.old rows.old) result (state_of cells.new rows.new anchor.new scheme.new) }
     ensures level { mask.new.level ≡ mask.old.level }
-    ensures runs { Continues K.Key.below S.Scheme.table S.Scheme.strict S.Scheme.acts (state-of cells.old rows.old anchor.old scheme.old) (call-of (what-of (Request.Begin kind target)) seat mask.old.level cells.old rows.old) result (state-of cells.new rows.new anchor.new scheme.new) }
+    ensures runs { Continues K.Key.below S.Scheme.table S.Scheme.strict S.Scheme.acts (state_of cells.old rows.old anchor.old scheme.old) (call_of (what_of (Request.Begin kind target)) seat mask.old.level cells.old rows.old) result (state_of cells.new rows.new anchor.new scheme.new) }
 {
     make_call(
         cells,
@@ -83,9 +83,9 @@ pub fn step<K: Key, S: Scheme>(
     mask: &mut Mask,
     seat: u8,
 ) -> Answer
-    ensures did { Did K.Key.below S.Scheme.table S.Scheme.strict S.Scheme.acts (state-of cells.old rows.old anchor.old scheme.old) (call-of (what-of Request.Step) seat mask.old.level cells.old rows.old) result (state-of cells.new rows.new anchor.new scheme.new) }
+    ensures did { Did K.Key.below S.Scheme.table S.Scheme.strict S.Scheme.acts (state_of cells.old rows.old anchor.old scheme.old) (call_of (what_of Request.Step) seat mask.old.level cells.old rows.old) result (state_of cells.new rows.new anchor.new scheme.new) }
     ensures level { mask.new.level ≡ mask.old.level }
-    ensures runs { Continues K.Key.below S.Scheme.table S.Scheme.strict S.Scheme.acts (state-of cells.old rows.old anchor.old scheme.old) (call-of (what-of Request.Step) seat mask.old.level cells.old rows.old) result (state-of cells.new rows.new anchor.new scheme.new) }
+    ensures runs { Continues K.Key.below S.Scheme.table S.Scheme.strict S.Scheme.acts (state_of cells.old rows.old anchor.old scheme.old) (call_of (what_of Request.Step) seat mask.old.level cells.old rows.old) result (state_of cells.new rows.new anchor.new scheme.new) }
 {
     make_call(cells, rows, anchor, scheme, mask, seat, Request::Step)
 }
@@ -99,9 +99,9 @@ pub fn abandon<K: Key, S: Scheme>(
     mask: &mut Mask,
     seat: u8,
 ) -> Answer
-    ensures did { Did K.Key.below S.Scheme.table S.Scheme.strict S.Scheme.acts (state-of cells.old rows.old anchor.old scheme.old) (call-of (what-of Request.Abandon) seat mask.old.level cells.old rows.old) result (state-of cells.new rows.new anchor.new scheme.new) }
+    ensures did { Did K.Key.below S.Scheme.table S.Scheme.strict S.Scheme.acts (state_of cells.old rows.old anchor.old scheme.old) (call_of (what_of Request.Abandon) seat mask.old.level cells.old rows.old) result (state_of cells.new rows.new anchor.new scheme.new) }
     ensures level { mask.new.level ≡ mask.old.level }
-    ensures runs { Continues K.Key.below S.Scheme.table S.Scheme.strict S.Scheme.acts (state-of cells.old rows.old anchor.old scheme.old) (call-of (what-of Request.Abandon) seat mask.old.level cells.old rows.old) result (state-of cells.new rows.new anchor.new scheme.new) }
+    ensures runs { Continues K.Key.below S.Scheme.table S.Scheme.strict S.Scheme.acts (state_of cells.old rows.old anchor.old scheme.old) (call_of (what_of Request.Abandon) seat mask.old.level cells.old rows.old) result (state_of cells.new rows.new anchor.new scheme.new) }
 {
     make_call(cells, rows, anchor, scheme, mask, seat, Request::Abandon)
 }

@@ -1,11 +1,11 @@
 // The five calls, by slip. A task that has a slip has a seat, and cannot end before it has given the slip back: a slip cannot be let go
 // or copied, only join makes one, and only leave takes one.
 ghost use Rattle.std.specs.Prelude.{◌≡◌, IfOk, IfErr};
-ghost use Rattle.list_window.specs.Turns.{what-of};
-ghost use Rattle.list_window.specs.Applied.{state-of};
+ghost use Rattle.list_window.specs.Turns.{what_of};
+ghost use Rattle.list_window.specs.Applied.{state_of};
 ghost use Rattle.list_law.specs.Call.{Did};
 ghost use Rattle.list_law.specs.Continued.{Continues};
-ghost use Rattle.list.specs.Calls.{call-of};
+ghost use Rattle.list.specs.Calls.{call_of};
 ghost use Rattle.list.specs.Slips.{joined, left};
 
 use crate::calls;
@@ -47,9 +47,9 @@ impl Slip {
         mask: &mut Mask,
         seat: u8,
     ) -> Result<Slip, Refusal>
-        ensures did { Did K.Key.below S.Scheme.table S.Scheme.strict S.Scheme.acts (state-of cells.old rows.old anchor.old scheme.old) (call-of (what-of Request.Join) seat mask.old.level cells.old rows.old) (joined result) (state-of cells.new rows.new anchor.new scheme.new) }
+        ensures did { Did K.Key.below S.Scheme.table S.Scheme.strict S.Scheme.acts (state_of cells.old rows.old anchor.old scheme.old) (call_of (what_of Request.Join) seat mask.old.level cells.old rows.old) (joined result) (state_of cells.new rows.new anchor.new scheme.new) }
         ensures level { mask.new.level ≡ mask.old.level }
-        ensures runs { Continues K.Key.below S.Scheme.table S.Scheme.strict S.Scheme.acts (state-of cells.old rows.old anchor.old scheme.old) (call-of (what-of Request.Join) seat mask.old.level cells.old rows.old) (joined result) (state-of cells.new rows.new anchor.new scheme.new) }
+        ensures runs { Continues K.Key.below S.Scheme.table S.Scheme.strict S.Scheme.acts (state_of cells.old rows.old anchor.old scheme.old) (call_of (what_of Request.Join) seat mask.old.level cells.old rows.old) (joined result) (state_of cells.new rows.new anchor.new scheme.new) }
         ensures seat { IfOk result (λ slip. slip.seat ≡ seat) }
     {
         match calls::join(cells, rows, anchor, scheme, mask, seat) {
@@ -70,9 +70,9 @@ impl Slip {
         kind: Kind,
         target: K,
     ) -> Answer
-        ensures did { Did K.Key.below S.Scheme.table S.Scheme.strict S.Scheme.acts (state-of cells.old rows.old anchor.old scheme.old) (call-of (what-of (Request.Begin kind target)) self.now.seat mask.old.level cells.old rows.old) result (state-of cells.new rows.new anchor.new scheme.new) }
+        ensures did { Did K.Key.below S.Scheme.table S.Scheme.strict S.Scheme.acts (state_of cells.old rows.old anchor.old scheme.old) (call_of (what_of (Request.Begin kind target)) self.now.seat mask.old.level cells.old rows.old) result (state_of cells.new rows.new anchor.new scheme.new) }
         ensures level { mask.new.level ≡ mask.old.level }
-        ensures runs { Continues K.Key.below S.Scheme.table S.Scheme.strict S.Scheme.acts (state-of cells.old rows.old anchor.old scheme.old) (call-of (what-of (Request.Begin kind target)) self.now.seat mask.old.level cells.old rows.old) result (state-of cells.new rows.new anchor.new scheme.new) }
+        ensures runs { Continues K.Key.below S.Scheme.table S.Scheme.strict S.Scheme.acts (state_of cells.old rows.old anchor.old scheme.old) (call_of (what_of (Request.Begin kind target)) self.now.seat mask.old.level cells.old rows.old) result (state_of cells.new rows.new anchor.new scheme.new) }
     {
         calls::begin(cells, rows, anchor, scheme, mask, self.seat, kind, target)
     }
@@ -86,9 +86,9 @@ impl Slip {
         scheme: &mut S,
         mask: &mut Mask,
     ) -> Answer
-        ensures did { Did K.Key.below S.Scheme.table S.Scheme.strict S.Scheme.acts (state-of cells.old rows.old anchor.old scheme.old) (call-of (what-of Request.Step) self.now.seat mask.old.level cells.old rows.old) result (state-of cells.new rows.new anchor.new scheme.new) }
+        ensures did { Did K.Key.below S.Scheme.table S.Scheme.strict S.Scheme.acts (state_of cells.old rows.old anchor.old scheme.old) (call_of (what_of Request.Step) self.now.seat mask.old.level cells.old rows.old) result (state_of cells.new rows.new anchor.new scheme.new) }
         ensures level { mask.new.level ≡ mask.old.level }
-        ensures runs { Continues K.Key.below S.Scheme.table S.Scheme.strict S.Scheme.acts (state-of cells.old rows.old anchor.old scheme.old) (call-of (what-of Request.Step) self.now.seat mask.old.level cells.old rows.old) result (state-of cells.new rows.new anchor.new scheme.new) }
+        ensures runs { Continues K.Key.below S.Scheme.table S.Scheme.strict S.Scheme.acts (state_of cells.old rows.old anchor.old scheme.old) (call_of (what_of Request.Step) self.now.seat mask.old.level cells.old rows.old) result (state_of cells.new rows.new anchor.new scheme.new) }
     {
         calls::step(cells, rows, anchor, scheme, mask, self.seat)
     }
@@ -102,9 +102,9 @@ impl Slip {
         scheme: &mut S,
         mask: &mut Mask,
     ) -> Answer
-        ensures did { Did K.Key.below S.Scheme.table S.Scheme.strict S.Scheme.acts (state-of cells.old rows.old anchor.old scheme.old) (call-of (what-of Request.Abandon) self.now.seat mask.old.level cells.old rows.old) result (state-of cells.new rows.new anchor.new scheme.new) }
+        ensures did { Did K.Key.below S.Scheme.table S.Scheme.strict S.Scheme.acts (state_of cells.old rows.old anchor.old scheme.old) (call_of (what_of Request.Abandon) self.now.seat mask.old.level cells.old rows.old) result (state_of cells.new rows.new anchor.new scheme.new) }
         ensures level { mask.new.level ≡ mask.old.level }
-        ensures runs { Continues K.Key.below S.Scheme.table S.Scheme.strict S.Scheme.acts (state-of cells.old rows.old anchor.old scheme.old) (call-of (what-of Request.Abandon) self.now.seat mask.old.level cells.old rows.old) result (state-of cells.new rows.new anchor.new scheme.new) }
+        ensures runs { Continues K.Key.below S.Scheme.table S.Scheme.strict S.Scheme.acts (state_of cells.old rows.old anchor.old scheme.old) (call_of (what_of Request.Abandon) self.now.seat mask.old.level cells.old rows.old) result (state_of cells.new rows.new anchor.new scheme.new) }
     {
         calls::abandon(cells, rows, anchor, scheme, mask, self.seat)
     }
@@ -118,9 +118,9 @@ impl Slip {
         scheme: &mut S,
         mask: &mut Mask,
     ) -> Result<(), Kept>
-        ensures did { Did K.Key.below S.Scheme.table S.Scheme.strict S.Scheme.acts (state-of cells.old rows.old anchor.old scheme.old) (call-of (what-of Request.Leave) self.seat mask.old.level cells.old rows.old) (left result) (state-of cells.new rows.new anchor.new scheme.new) }
+        ensures did { Did K.Key.below S.Scheme.table S.Scheme.strict S.Scheme.acts (state_of cells.old rows.old anchor.old scheme.old) (call_of (what_of Request.Leave) self.seat mask.old.level cells.old rows.old) (left result) (state_of cells.new rows.new anchor.new scheme.new) }
         ensures level { mask.new.level ≡ mask.old.level }
-        ensures runs { Continues K.Key.below S.Scheme.table S.Scheme.strict S.Scheme.acts (state-of cells.old rows.old anchor.old scheme.old) (call-of (what-of Request.Leave) self.seat mask.old.level cells.old rows.old) (left result) (state-of cells.new rows.new anchor.new scheme.new) }
+        ensures runs { Continues K.Key.below S.Scheme.table S.Scheme.strict S.Scheme.acts (state_of cells.old rows.old anchor.old scheme.old) (call_of (what_of Request.Leave) self.seat mask.old.level cells.old rows.old) (left result) (state_of cells.new rows.new anchor.new scheme.new) }
         ensures slip { IfErr result (λ kept. kept.slip ≡ self) }
     {
         let Slip { seat } = self;

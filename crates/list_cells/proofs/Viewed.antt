@@ -5,18 +5,18 @@ use Rattle.std.proofs.lemmas.Option.{slice_get-get_or, slice_get_past}
 use Rattle.std.specs.List.{slice_get}
 use Rattle.std.specs.Option.{option_map}
 use Rattle.list_cells.specs.declared.cell.Cell.{Cell}
-use Rattle.list_cells.specs.Views.{cell-of}
+use Rattle.list_cells.specs.Views.{cell_of}
 use Rattle.list_law.specs.Call.{replaced, rewritten}
 
-pub nth-map : {X Y : Type 0} (f : X → Y) (xs : List X) (i : ℕ) → slice_get (map f xs) i ≡ option_map f (slice_get xs i)
-nth-map f [] i = refl
-nth-map f (x ∷ xs) zero = refl
-nth-map f (x ∷ xs) (suc i) = nth-map f xs i
+pub nth_map : {X Y : Type 0} (f : X → Y) (xs : List X) (i : ℕ) → slice_get (map f xs) i ≡ option_map f (slice_get xs i)
+nth_map f [] i = refl
+nth_map f (x ∷ xs) zero = refl
+nth_map f (x ∷ xs) (suc i) = nth_map f xs i
 
 -- a cell that is there is written over, and one that is not there is not
-pub stored : {K : Type 0} (cells : List (Cell K)) (i : ℕ) (c : Cell K) → i < length cells → map cell-of (set cells i c) ≡ rewritten (map cell-of cells) i (λ _. cell-of c)
+pub stored : {K : Type 0} (cells : List (Cell K)) (i : ℕ) (c : Cell K) → i < length cells → map cell_of (set cells i c) ≡ rewritten (map cell_of cells) i (λ _. cell_of c)
 stored cells i c h =
-    map-set cell-of cells i c ∙ sym (ap (replaced (map cell-of cells) i (λ _. cell-of c)) (nth-map cell-of cells i ∙ ap (option_map cell-of) (slice_get-get_or cells i c h)))
+    map-set cell_of cells i c ∙ sym (ap (replaced (map cell_of cells) i (λ _. cell_of c)) (nth_map cell_of cells i ∙ ap (option_map cell_of) (slice_get-get_or cells i c h)))
 
-pub not-stored : {K : Type 0} (cells : List (Cell K)) (i : ℕ) (c : Cell K) → length cells ≤ i → map cell-of cells ≡ rewritten (map cell-of cells) i (λ _. cell-of c)
-not-stored cells i c h = sym (ap (replaced (map cell-of cells) i (λ _. cell-of c)) (nth-map cell-of cells i ∙ ap (option_map cell-of) (slice_get_past cells i h)))
+pub not_stored : {K : Type 0} (cells : List (Cell K)) (i : ℕ) (c : Cell K) → length cells ≤ i → map cell_of cells ≡ rewritten (map cell_of cells) i (λ _. cell_of c)
+not_stored cells i c h = sym (ap (replaced (map cell_of cells) i (λ _. cell_of c)) (nth_map cell_of cells i ∙ ap (option_map cell_of) (slice_get_past cells i h)))

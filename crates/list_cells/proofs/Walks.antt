@@ -10,9 +10,9 @@ module _ {K : Type 0} (below : K → K → Bool) (cells : List (Cell K)) (x : K)
   one_less h = omega arith
 
   -- a cell is passed, and the walk goes on from it
-  pub walk-on : (lead : Option ℕ) (link : Link) (p : ℕ) (l : Link) → i < room → passed p l ≡ look below cells x lead link → walk below cells x (room - (i + 1)) (Some p) l ≡ walk below cells x (room - i) lead link
+  pub walk_on : (lead : Option ℕ) (link : Link) (p : ℕ) (l : Link) → i < room → passed p l ≡ look below cells x lead link → walk below cells x (room - (i + 1)) (Some p) l ≡ walk below cells x (room - i) lead link
   unfolding walk
-  walk-on lead link p l h e =
+  walk_on lead link p l h e =
       ap (λ m. followed m (λ q k. walk below cells x (room - (i + 1)) (Some q) k)) e ∙ ap (λ n. walk below cells x n lead link) (sym (one_less h))
 
   -- the walk ends where no cell is passed
@@ -28,9 +28,9 @@ module _ {K : Type 0} (below : K → K → Bool) (cells : List (Cell K)) (x : K)
       stays (absent lead l) never = refl
 
   -- the last link
-  pub walk-last : (lead : Option ℕ) (link : Link) → room ≤ i → look below cells x lead link ≡ walk below cells x (room - i) lead link
+  pub walk_last : (lead : Option ℕ) (link : Link) → room ≤ i → look below cells x lead link ≡ walk below cells x (room - i) lead link
   unfolding walk
-  walk-last lead link h = ap (λ n. walk below cells x n lead link) z
+  walk_last lead link h = ap (λ n. walk below cells x n lead link) z
     where
       z : 0 ≡ room - i
       z = omega arith
@@ -47,8 +47,8 @@ module _ {K : Type 0} (below : K → K → Bool) (cells : List (Cell K)) (x : K)
       ap (λ b. judged b (below x c.key) lead p c.link) (sym both.1) ∙ sym (cond-true c.listed _ _ both.0) ∙ here
 
   -- it is not passed
-  pub ends-here : (c.listed && below c.key x) ≡ false → (q : ℕ) (l : Link) → look below cells x lead (Some p) ≡ passed q l → ⊥
-  ends-here e q l is = go c.listed (below c.key x) (below x c.key) e (here ∙ is)
+  pub ends_here : (c.listed && below c.key x) ≡ false → (q : ℕ) (l : Link) → look below cells x lead (Some p) ≡ passed q l → ⊥
+  ends_here e q l is = go c.listed (below c.key x) (below x c.key) e (here ∙ is)
     where
       go : (a b d : Bool) → (a && b) ≡ false → cond a (judged b d lead p c.link) bad ≡ passed q l → ⊥
       go true true d e is = let z : ◌≡◌ {A = ℕ} 0 1 = cc in absurd (omega arith)

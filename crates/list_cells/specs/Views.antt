@@ -9,11 +9,11 @@ use Rattle.list_cells.specs.declared.walk.Met.TheVariants as variant
 use Rattle.list_law.specs.Call as call
 
 -- a cell, with its link by number
-abbrev pub cell-of : {K : Type 0} → declared.Cell K → call.Cell K
-cell-of c = call.cell c.key (numbered c.link) c.listed
+abbrev pub cell_of : {K : Type 0} → declared.Cell K → call.Cell K
+cell_of c = call.cell c.key (numbered c.link) c.listed
 
 abbrev pub found_of : {K : Type 0} → Option (declared.Cell K) → Option (call.Cell K)
-found_of o = option_map cell-of o
+found_of o = option_map cell_of o
 
 -- where a walk ended, by numbers
 abbrev pub met_of : declared-met.Met → call.Met
@@ -23,13 +23,13 @@ met_of (variant.Present lead p l) = call.present (numbered lead) p.number (numbe
 met_of (variant.Absent lead l) = call.absent (numbered lead) (numbered l)
 
 -- the anchor, with its links by number
-abbrev pub anchor-of : declared-anchor.Anchor → call.Anchor
-anchor-of a = record { count = a.count; window = a.window; head = numbered a.head; free = numbered a.free }
+abbrev pub anchor_of : declared-anchor.Anchor → call.Anchor
+anchor_of a = record { count = a.count; window = a.window; head = numbered a.head; free = numbered a.free }
 
 -- the part that a window writes
-abbrev pub memory-of : {K : Type 0} → List (declared.Cell K) → declared-anchor.Anchor → call.Memory K
-memory-of cs a = call.memory (map cell-of cs) (numbered a.head) (numbered a.free)
+abbrev pub lent_memory : {K : Type 0} → List (declared.Cell K) → declared-anchor.Anchor → call.Memory K
+lent_memory cs a = call.memory (map cell_of cs) (numbered a.head) (numbered a.free)
 
 -- the numbers that are given at making stay
-abbrev pub Same-sizes : declared-anchor.Anchor → declared-anchor.Anchor → Type 0
-Same-sizes a b = (b.count ≡ a.count) × (b.window ≡ a.window)
+abbrev pub SameSizes : declared-anchor.Anchor → declared-anchor.Anchor → Type 0
+SameSizes a b = (b.count ≡ a.count) × (b.window ≡ a.window)

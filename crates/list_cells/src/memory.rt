@@ -1,8 +1,8 @@
 // The writes of a window: to cells, and to where the two chains begin.
 ghost use Rattle.std.specs.Prelude.{◌≡◌, true, false, map};
 ghost use Rattle.marks.specs.Marks.{numbered};
-ghost use Rattle.list_law.specs.Call.{rewritten, linked, flagged, leadingSet, freed, removed, inserted};
-ghost use Rattle.list_cells.specs.Views.{cell-of, memory-of, Same-sizes};
+ghost use Rattle.list_law.specs.Call.{rewritten, linked, flagged, leading_set, freed, removed, inserted};
+ghost use Rattle.list_cells.specs.Views.{cell_of, lent_memory, SameSizes};
 
 use crate::cell::{Anchor, Cell};
 use crate::walk::cell_at;
@@ -11,7 +11,7 @@ use keys::key::Key;
 
 // The cell at a place is written whole.
 fn store<K: Key>(cells: &mut [Cell<K>], place: Place, cell: Cell<K>)
-    ensures { map cell-of cells.new ≡ rewritten (map cell-of cells.old) place.number (λ _. cell-of cell) }
+    ensures { map cell_of cells.new ≡ rewritten (map cell_of cells.old) place.number (λ _. cell_of cell) }
 {
     let at = place.number() as usize;
     if at < cells.len() {
@@ -21,7 +21,7 @@ fn store<K: Key>(cells: &mut [Cell<K>], place: Place, cell: Cell<K>)
 
 // The cell at a place gets another link.
 fn put_link<K: Key>(cells: &mut [Cell<K>], place: Place, link: Option<Place>)
-    ensures { map cell-of cells.new ≡ rewritten (map cell-of cells.old) place.number (linked (numbered link)) }
+    ensures { map cell_of cells.new ≡ rewritten (map cell_of cells.old) place.number (linked (numbered link)) }
 {
     if let Some(cell) = cell_at(cells, place) {
         let key = cell.key;
@@ -32,7 +32,7 @@ fn put_link<K: Key>(cells: &mut [Cell<K>], place: Place, link: Option<Place>)
 
 // The cell at a place is flagged listed or free.
 fn put_flag<K: Key>(cells: &mut [Cell<K>], place: Place, listed: bool)
-    ensures { map cell-of cells.new ≡ rewritten (map cell-of cells.old) place.number (flagged listed) }
+    ensures { map cell_of cells.new ≡ rewritten (map cell_of cells.old) place.number (flagged listed) }
 {
     if let Some(cell) = cell_at(cells, place) {
         let key = cell.key;
@@ -48,8 +48,8 @@ pub fn set_lead<K: Key>(
     lead: Option<Place>,
     link: Option<Place>,
 )
-    ensures memory { memory-of cells.new anchor.new ≡ leadingSet (numbered lead) (numbered link) (memory-of cells.old anchor.old) }
-    ensures sizes { Same-sizes anchor.old anchor.new }
+    ensures memory { lent_memory cells.new anchor.new ≡ leading_set (numbered lead) (numbered link) (lent_memory cells.old anchor.old) }
+    ensures sizes { SameSizes anchor.old anchor.new }
 {
     match lead {
         None => anchor.head = link,
@@ -59,8 +59,8 @@ pub fn set_lead<K: Key>(
 
 // The cell at a place is flagged free, and then put at the front of the free chain.
 pub fn free_cell<K: Key>(cells: &mut [Cell<K>], anchor: &mut Anchor, place: Place)
-    ensures memory { memory-of cells.new anchor.new ≡ freed place.number (memory-of cells.old anchor.old) }
-    ensures sizes { Same-sizes anchor.old anchor.new }
+    ensures memory { lent_memory cells.new anchor.new ≡ freed place.number (lent_memory cells.old anchor.old) }
+    ensures sizes { SameSizes anchor.old anchor.new }
 {
     put_flag(cells, place, false);
     put_link(cells, place, anchor.free);
@@ -75,8 +75,8 @@ pub fn unlink<K: Key>(
     place: Place,
     link: Option<Place>,
 )
-    ensures memory { memory-of cells.new anchor.new ≡ removed (numbered lead) place.number (numbered link) (memory-of cells.old anchor.old) }
-    ensures sizes { Same-sizes anchor.old anchor.new }
+    ensures memory { lent_memory cells.new anchor.new ≡ removed (numbered lead) place.number (numbered link) (lent_memory cells.old anchor.old) }
+    ensures sizes { SameSizes anchor.old anchor.new }
 {
     set_lead(cells, anchor, lead, link);
     free_cell(cells, anchor, place);
@@ -92,8 +92,8 @@ pub fn link_in<K: Key>(
     place: Place,
     rest: Option<Place>,
 )
-    ensures memory { memory-of cells.new anchor.new ≡ inserted (numbered lead) (numbered link) key place.number (numbered rest) (memory-of cells.old anchor.old) }
-    ensures sizes { Same-sizes anchor.old anchor.new }
+    ensures memory { lent_memory cells.new anchor.new ≡ inserted (numbered lead) (numbered link) key place.number (numbered rest) (lent_memory cells.old anchor.old) }
+    ensures sizes { SameSizes anchor.old anchor.new }
 {
     anchor.free = rest;
     let listed = true;

@@ -3,7 +3,7 @@ ghost use Rattle.std.specs.Prelude.{◌≡◌, pred, ◌&&◌, map, Some};
 ghost use Rattle.std.specs.List.{slice_get};
 ghost use Rattle.marks.specs.Marks.{numbered};
 ghost use Rattle.list_law.specs.Call.{met, look, walk, walked};
-ghost use Rattle.list_cells.specs.Views.{cell-of, found_of, met_of};
+ghost use Rattle.list_cells.specs.Views.{cell_of, found_of, met_of};
 
 use crate::cell::Cell;
 use basis::place::Place;
@@ -34,7 +34,7 @@ pub enum Met {
 
 // The cell of that number, if there is one.
 fn cell_numbered<K: Key>(cells: &[Cell<K>], at: usize) -> Option<Cell<K>>
-    ensures { found_of result ≡ slice_get (map cell-of cells.now) at }
+    ensures { found_of result ≡ slice_get (map cell_of cells.now) at }
 {
     if at < cells.len() {
         Some(cells[at])
@@ -45,14 +45,14 @@ fn cell_numbered<K: Key>(cells: &[Cell<K>], at: usize) -> Option<Cell<K>>
 
 // The cell at a place, if there is one.
 pub fn cell_at<K: Key>(cells: &[Cell<K>], place: Place) -> Option<Cell<K>>
-    ensures { found_of result ≡ slice_get (map cell-of cells.now) place.number }
+    ensures { found_of result ≡ slice_get (map cell_of cells.now) place.number }
 {
     cell_numbered(cells, place.number() as usize)
 }
 
 // What the cell at a place is to a walk that was led there.
 fn judge<K: Key>(cell: Cell<K>, target: K, lead: Option<Place>, place: Place) -> Met
-    ensures { met_of result ≡ met K.Key.below target (numbered lead) place.number (Some (cell-of cell)) }
+    ensures { met_of result ≡ met K.Key.below target (numbered lead) place.number (Some (cell_of cell)) }
 {
     let link = cell.link;
     if !cell.listed {
@@ -70,7 +70,7 @@ fn judge<K: Key>(cell: Cell<K>, target: K, lead: Option<Place>, place: Place) ->
 
 // One link followed.
 fn follow<K: Key>(cells: &[Cell<K>], target: K, lead: Option<Place>, link: Option<Place>) -> Met
-    ensures { met_of result ≡ look K.Key.below (map cell-of cells.now) target (numbered lead) (numbered link) }
+    ensures { met_of result ≡ look K.Key.below (map cell_of cells.now) target (numbered lead) (numbered link) }
 {
     match link {
         None => Met::Absent { lead, link },
@@ -96,7 +96,7 @@ fn walk_links<K: Key>(
     lead: Option<Place>,
     link: Option<Place>,
 ) -> Met
-    ensures { met_of result ≡ walk K.Key.below (map cell-of cells.now) target room (numbered lead) (numbered link) }
+    ensures { met_of result ≡ walk K.Key.below (map cell_of cells.now) target room (numbered lead) (numbered link) }
 {
     let mut lead = lead;
     let mut link = link;
@@ -124,7 +124,7 @@ pub fn walk_from<K: Key>(
     room: u8,
     mark: Option<Place>,
 ) -> Met
-    ensures { met_of result ≡ walked K.Key.below (map cell-of cells.now) (numbered head) target room (numbered mark) }
+    ensures { met_of result ≡ walked K.Key.below (map cell_of cells.now) (numbered head) target room (numbered mark) }
 {
     let Some(place) = mark else {
         return walk_links(cells, target, room, None, head);

@@ -5,15 +5,15 @@ use Rattle.basis.specs.declared.answer.Answer.{Answer}
 use Rattle.basis.specs.declared.answer.Answer.TheVariants.{Ok, Refused}
 use Rattle.marks.specs.Meaning.{Table, Order}
 use Rattle.list_driver.specs.declared.driver.Ask as declared
-use Rattle.list_window.specs.Turns.{what-of}
+use Rattle.list_window.specs.Turns.{what_of}
 use Rattle.list_law.specs.Call.{State}
 use Rattle.list_law.specs.Making.{makes, Makes}
 use Rattle.list_law.specs.Performed.{Ask}
 use Rattle.list_law.specs.Driven.{Driven}
 
 -- what a seat asks
-abbrev pub ask-of : {K : Type 0} → declared.Ask K → Ask K
-ask-of k = record { seat = k.seat; level = k.level; what = what-of k.request }
+abbrev pub ask_of : {K : Type 0} → declared.Ask K → Ask K
+ask_of k = record { seat = k.seat; level = k.level; what = what_of k.request }
 
 -- as many answers as calls, and sizes that making takes
 abbrev pub runnable : ℕ → ℕ → ℕ → ℕ → ℕ → Bool

@@ -1,11 +1,11 @@
 // The driver: makes an index and runs a list of calls on it.
 ghost use Rattle.std.specs.Prelude.{◌≡◌, [], map, length};
-ghost use Rattle.list_driver.specs.Asks.{ask-of, runnable, Ran};
-ghost use Rattle.list.specs.Calls.{call-of};
-ghost use Rattle.list_window.specs.Turns.{what-of};
+ghost use Rattle.list_driver.specs.Asks.{ask_of, runnable, Ran};
+ghost use Rattle.list.specs.Calls.{call_of};
+ghost use Rattle.list_window.specs.Turns.{what_of};
 ghost use Rattle.list_law.specs.Call.{Did};
 ghost use Rattle.list_law.specs.Continued.{Continues};
-ghost use Rattle.list_window.specs.Applied.{state-of};
+ghost use Rattle.list_window.specs.Applied.{state_of};
 ghost use Rattle.list_law.specs.Driven.{Driven};
 
 use basis::answer::Answer;
@@ -36,8 +36,8 @@ fn run_ask<K: Key, S: Scheme>(
     mask: &mut Mask,
     ask: Ask<K>,
 ) -> Answer
-    ensures did { Did K.Key.below S.Scheme.table S.Scheme.strict S.Scheme.acts (state-of cells.old rows.old anchor.old scheme.old) (call-of (what-of ask.request) ask.seat ask.level cells.old rows.old) result (state-of cells.new rows.new anchor.new scheme.new) }
-    ensures runs { Continues K.Key.below S.Scheme.table S.Scheme.strict S.Scheme.acts (state-of cells.old rows.old anchor.old scheme.old) (call-of (what-of ask.request) ask.seat ask.level cells.old rows.old) result (state-of cells.new rows.new anchor.new scheme.new) }
+    ensures did { Did K.Key.below S.Scheme.table S.Scheme.strict S.Scheme.acts (state_of cells.old rows.old anchor.old scheme.old) (call_of (what_of ask.request) ask.seat ask.level cells.old rows.old) result (state_of cells.new rows.new anchor.new scheme.new) }
+    ensures runs { Continues K.Key.below S.Scheme.table S.Scheme.strict S.Scheme.acts (state_of cells.old rows.old anchor.old scheme.old) (call_of (what_of ask.request) ask.seat ask.level cells.old rows.old) result (state_of cells.new rows.new anchor.new scheme.new) }
 {
     mask.level = ask.level;
     make_call(cells, rows, anchor, scheme, mask, ask.seat, ask.request)
@@ -53,8 +53,8 @@ fn drive<K: Key, S: Scheme>(
     asks: &[Ask<K>],
     answers: &mut [Answer],
 )
-    requires { (length asks.now ≡ length answers.old) × ((length rows.old ≡ 16) × (Driven K.Key.below S.Scheme.table S.Scheme.strict S.Scheme.acts (length cells.old) anchor.old.window (state-of cells.old rows.old anchor.old scheme.old) [] [] (state-of cells.old rows.old anchor.old scheme.old))) }
-    ensures { Driven K.Key.below S.Scheme.table S.Scheme.strict S.Scheme.acts (length cells.old) anchor.old.window (state-of cells.old rows.old anchor.old scheme.old) (map ask-of asks.now) answers.new (state-of cells.new rows.new anchor.new scheme.new) }
+    requires { (length asks.now ≡ length answers.old) × ((length rows.old ≡ 16) × (Driven K.Key.below S.Scheme.table S.Scheme.strict S.Scheme.acts (length cells.old) anchor.old.window (state_of cells.old rows.old anchor.old scheme.old) [] [] (state_of cells.old rows.old anchor.old scheme.old))) }
+    ensures { Driven K.Key.below S.Scheme.table S.Scheme.strict S.Scheme.acts (length cells.old) anchor.old.window (state_of cells.old rows.old anchor.old scheme.old) (map ask_of asks.now) answers.new (state_of cells.new rows.new anchor.new scheme.new) }
 {
     for at in 0..asks.len() {
         let ask = asks[at];
@@ -87,7 +87,7 @@ pub fn run_calls<K: Key, S: Scheme>(
     asks: &[Ask<K>],
     answers: &mut [Answer],
 ) -> Answer
-    ensures ran { Ran K.Key.below S.Scheme.table S.Scheme.strict S.Scheme.acts (length cells.old) (length rows.old) window (map ask-of asks.now) answers.old (state-of cells.old rows.old anchor.old scheme.old) result answers.new (state-of cells.new rows.new anchor.new scheme.new) }
+    ensures ran { Ran K.Key.below S.Scheme.table S.Scheme.strict S.Scheme.acts (length cells.old) (length rows.old) window (map ask_of asks.now) answers.old (state_of cells.old rows.old anchor.old scheme.old) result answers.new (state_of cells.new rows.new anchor.new scheme.new) }
     ensures level { mask.new.level ≡ mask.old.level }
 {
     if !fits(cells, rows, window, asks, answers) {

@@ -7,12 +7,12 @@ use Rattle.ledger.specs.Ledger.{Call}
 use Rattle.ledger.specs.Law.{made, more}
 use Rattle.list_law.specs.Call.{State, Did}
 use Rattle.list_law.specs.Runs.{Made, Lent, Next}
-use Rattle.list_law.specs.Continued.{Lendable, ownAfter, happened, Begins, Continues}
+use Rattle.list_law.specs.Continued.{Lendable, own_after, happened, Begins, Continues}
 use Rattle.list_law.proofs.Lawful.{law}
 
-lent-so : {X : Type 0} (a : Answer) (own own' lent left : List X) (choice : Lendable a own lent) → own' ≡ ownAfter a own lent choice left → Lent a own own' lent left
-lent-so a own own' lent left (inl mine) h = inl (mine, h)
-lent-so a own own' lent left (inr other) h = inr (h, other)
+lent_so : {X : Type 0} (a : Answer) (own own' lent left : List X) (choice : Lendable a own lent) → own' ≡ own_after a own lent choice left → Lent a own own' lent left
+lent_so a own own' lent left (inl mine) h = inl (mine, h)
+lent_so a own own' lent left (inr other) h = inr (h, other)
 
 module _ {K M : Type 0} (below : K → K → Bool) (order : Total below) (table : M → Table) (strict : Bool) (acts : Order → M → M → Type 0) where
   pub begins : (n w : ℕ) (s : State K M) → Made table n w s → Begins below table strict acts n w s
@@ -20,18 +20,18 @@ module _ {K M : Type 0} (below : K → K → Bool) (order : Total below) (table 
 
   pub continues : (lent : State K M) (c : Call K) (a : Answer) (left : State K M) → c.cells ≡ length lent.cells → c.rows ≡ length lent.rows
       → Did below table strict acts lent c a left → Continues below table strict acts lent c a left
-  continues lent c a left cells-number rows-number did n w es s r anchor marks cells rows s' cells' rows' anchor' marks' =
+  continues lent c a left cells_number rows_number did n w es s r anchor marks cells rows s' cells' rows' anchor' marks' =
       let d : Next below table strict acts s (happened below table lent c a) s' = record {
         lent = lent;
         left = left;
-        lent-anchor = anchor;
-        lent-marks = marks;
+        lent_anchor = anchor;
+        lent_marks = marks;
         anchor = anchor';
         marks = marks';
-        cells = lent-so a s.cells s'.cells lent.cells left.cells cells cells';
-        rows = lent-so a s.rows s'.rows lent.rows left.rows rows rows';
-        cells-number = cells-number;
-        rows-number = rows-number;
+        cells = lent_so a s.cells s'.cells lent.cells left.cells cells cells';
+        rows = lent_so a s.rows s'.rows lent.rows left.rows rows rows';
+        cells_number = cells_number;
+        rows_number = rows_number;
         did = did;
         told = refl;
       } in

@@ -7,12 +7,12 @@ use Rattle.keys.specs.Total.{Total}
 use Rattle.marks.specs.Meaning.{Table, Order, release, reserve, revoke, Means, Along}
 use Rattle.ledger.specs.Ledger.{Call}
 use Rattle.ledger.specs.Law.{Event}
-use Rattle.list_law.specs.Call.{away, State, Effect, effect, anchorAfter, rowsAfter, Obeys}
+use Rattle.list_law.specs.Call.{away, State, Effect, effect, anchor_after, rows_after, Obeys}
 use Rattle.list_law.specs.Runs.{Lent, Next, chained, onward}
 use Rattle.list_law.specs.Existence.{Able, Runs, unconstrained, RunsAreThere}
-use Rattle.list_law.proofs.Lists.{nth-there}
-use Rattle.list_law.proofs.Proper.{effect-proper, along-there}
-use Rattle.list_law.proofs.Lawful.{inv-of}
+use Rattle.list_law.proofs.Lists.{nth_there}
+use Rattle.list_law.proofs.Proper.{effect_proper, along_there}
+use Rattle.list_law.proofs.Lawful.{inv_of}
 
 -- a slice of k elements to lend: the index's own if it has as many, else another
 record Slice {X : Type 0} (own : List X) (k : ℕ) : Type 0 where
@@ -34,21 +34,21 @@ slice own x k = go (cases_eq k (length own))
     }
 
 module _ {K M : Type 0} (below : K → K → Bool) (order : Total below) (table : M → Table) (strict : Bool) (acts : Order → M → M → Type 0) (able : Able table strict acts) where
-  next-there : (s : State K M) → 1 ≤ length s.cells → (c : Call K) → (e : Event K) × (s' : State K M) × Next below table strict acts s e s' × (e.call ≡ c)
-  next-there s some c = (
+  next_there : (s : State K M) → 1 ≤ length s.cells → (c : Call K) → (e : Event K) × (s' : State K M) × Next below table strict acts s e s' × (e.call ≡ c)
+  next_there s some c = (
     e,
     s',
     record {
       lent = lent;
       left = left;
-      lent-anchor = refl;
-      lent-marks = refl;
+      lent_anchor = refl;
+      lent_marks = refl;
       anchor = refl;
       marks = refl;
       cells = cs.allowed e.answer left.cells;
       rows = rs.allowed e.answer left.rows;
-      cells-number = cs.long;
-      rows-number = rs.long;
+      cells_number = cs.long;
+      rows_number = rs.long;
       did = record { answer = refl; cells = refl; anchor = refl; rows = refl; marks = on.1 };
       told = refl;
     },
@@ -56,7 +56,7 @@ module _ {K M : Type 0} (below : K → K → Bool) (order : Total below) (table 
   )
     where
       cs : Slice s.cells c.cells
-      cs = slice s.cells (nth-there s.cells 0 some).0 c.cells
+      cs = slice s.cells (nth_there s.cells 0 some).0 c.cells
 
       rs : Slice s.rows c.rows
       rs = slice s.rows away c.rows
@@ -68,10 +68,10 @@ module _ {K M : Type 0} (below : K → K → Bool) (order : Total below) (table 
       f = effect below table lent c
 
       on : (m : M) × Along (Obeys table strict acts) f.orders s.marks m
-      on = along-there table strict acts able f.orders (effect-proper below table lent c) s.marks
+      on = along_there table strict acts able f.orders (effect_proper below table lent c) s.marks
 
       left : State K M
-      left = record { cells = f.memory.cells; rows = rowsAfter lent.rows c.seat f.row; anchor = anchorAfter s.anchor f.memory; marks = on.0 }
+      left = record { cells = f.memory.cells; rows = rows_after lent.rows c.seat f.row; anchor = anchor_after s.anchor f.memory; marks = on.0 }
 
       s' : State K M
       s' = record { cells = cs.after left.cells; rows = rs.after left.rows; anchor = left.anchor; marks = left.marks }
@@ -83,60 +83,60 @@ module _ {K M : Type 0} (below : K → K → Bool) (order : Total below) (table 
   runs = record {
     makes = λ n w some few some-w narrow given number. (
       record { cells = chained 0 given; rows = replicate 16 away; anchor = record { count = n; window = w; head = None; free = onward 0 given }; marks = able.blank },
-      record { sized = record { some-cells = some; few-cells = few; some-window = some-w; narrow = narrow }; given = given; number = number; cells = refl; rows = refl; anchor = refl; marks = able.unmarked },
+      record { sized = record { some_cells = some; few_cells = few; some_window = some-w; narrow = narrow }; given = given; number = number; cells = refl; rows = refl; anchor = refl; marks = able.unmarked },
       refl,
     );
     goes_on = λ n w es s r c.
-        let v = inv-of below order table strict acts n w es s r in
-        next-there s (omega (arith, v.cells, v.sized.some-cells)) c;
+        let v = inv_of below order table strict acts n w es s r in
+        next_there s (omega (arith, v.cells, v.sized.some_cells)) c;
   }
 
 -- the plain scheme can carry out every order
 
-isOn : Option ℕ → ℕ → Bool
-isOn None p = false
-isOn (Some q) p = eqb q p
+is_on : Option ℕ → ℕ → Bool
+is_on None p = false
+is_on (Some q) p = eqb q p
 
-on_same : (o : Option ℕ) (p : ℕ) → o ≡ Some p → isOn o p ≡ true
-unfolding isOn
-on_same o p h = ap (λ z. isOn z p) h ∙ eq-eqb p p refl
+on_same : (o : Option ℕ) (p : ℕ) → o ≡ Some p → is_on o p ≡ true
+unfolding is_on
+on_same o p h = ap (λ z. is_on z p) h ∙ eq-eqb p p refl
 
-on-other : (o : Option ℕ) (p : ℕ) → o ≢ Some p → isOn o p ≡ false
-unfolding isOn
-on-other None p h = refl
-on-other (Some q) p h = ne_eqb q p (λ e. h (ap Some e))
+on_other : (o : Option ℕ) (p : ℕ) → o ≢ Some p → is_on o p ≡ false
+unfolding is_on
+on_other None p h = refl
+on_other (Some q) p h = ne_eqb q p (λ e. h (ap Some e))
 
 put : Table → ℕ → Option ℕ → Table
 put m t o u = cond (eqb u t) o (m u)
 
-put-own : (m : Table) (t : ℕ) (o : Option ℕ) → put m t o t ≡ o
+put_own : (m : Table) (t : ℕ) (o : Option ℕ) → put m t o t ≡ o
 unfolding put
-put-own m t o = cond-true (eqb t t) o (m t) (eq-eqb t t refl)
+put_own m t o = cond-true (eqb t t) o (m t) (eq-eqb t t refl)
 
 put_other : (m : Table) (t : ℕ) (o : Option ℕ) (u : ℕ) → u ≢ t → put m t o u ≡ m u
 unfolding put
 put_other m t o u h = cond-false (eqb u t) o (m u) (ne_eqb u t h)
 
-tables-obey : (strict : Bool) (o : Order) (m : Table) → (b : Table) × Means strict o m b
-tables-obey strict (release t) m = (put m t None, record { own = put-own m t None; others = λ u _ h. put_other m t None u h })
-tables-obey strict (reserve t p) m = (put m t (Some p), record { own = put-own m t (Some p); others = λ u _ h. inl (put_other m t (Some p) u h) })
-tables-obey strict (revoke p) m = (
-  (λ u. cond (isOn (m u) p) None (m u)),
+tables_obey : (strict : Bool) (o : Order) (m : Table) → (b : Table) × Means strict o m b
+tables_obey strict (release t) m = (put m t None, record { own = put_own m t None; others = λ u _ h. put_other m t None u h })
+tables_obey strict (reserve t p) m = (put m t (Some p), record { own = put_own m t (Some p); others = λ u _ h. inl (put_other m t (Some p) u h) })
+tables_obey strict (revoke p) m = (
+  (λ u. cond (is_on (m u) p) None (m u)),
   record {
-    struck = λ u _ h. cond-true (isOn (m u) p) None (m u) (on_same (m u) p h);
-    others = λ u _ h. inl (cond-false (isOn (m u) p) None (m u) (on-other (m u) p h));
+    struck = λ u _ h. cond-true (is_on (m u) p) None (m u) (on_same (m u) p h);
+    others = λ u _ h. inl (cond-false (is_on (m u) p) None (m u) (on_other (m u) p h));
   },
 )
 
-pub tables-able : (strict : Bool) → Able (λ (m : Table). m) strict unconstrained
-tables-able strict = record {
+pub tables_able : (strict : Bool) → Able (λ (m : Table). m) strict unconstrained
+tables_able strict = record {
   blank = λ _. None;
   unmarked = λ _ _. refl;
-  obeys = λ o _ m. let r = tables-obey strict o m in (r.0, (tt, r.1));
+  obeys = λ o _ m. let r = tables_obey strict o m in (r.0, (tt, r.1));
 }
 
-pub runs-are-there : {K M : Type 0} (below : K → K → Bool) → Total below → (table : M → Table) (strict : Bool) (acts : Order → M → M → Type 0) → RunsAreThere below table strict acts 1008 64
-runs-are-there below order table strict acts = record {
-  over-scheme = runs below order table strict acts;
-  over-tables = λ keeps. runs below order (λ m. m) keeps unconstrained (tables-able keeps);
+pub runs_are_there : {K M : Type 0} (below : K → K → Bool) → Total below → (table : M → Table) (strict : Bool) (acts : Order → M → M → Type 0) → RunsAreThere below table strict acts 1008 64
+runs_are_there below order table strict acts = record {
+  over_scheme = runs below order table strict acts;
+  over_tables = λ keeps. runs below order (λ m. m) keeps unconstrained (tables_able keeps);
 }

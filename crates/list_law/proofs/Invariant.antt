@@ -5,19 +5,19 @@ use Rattle.std.specs.List.{slice_get}
 use Rattle.marks.specs.Meaning.{Table}
 use Rattle.ledger.specs.Ledger as plain
 use Rattle.ledger.specs.Ledger.{Ledger, seated}
-use Rattle.list_law.specs.Call.{Row, away, idle, running, State, memoryOf, row_at, rowOr}
+use Rattle.list_law.specs.Call.{Row, away, idle, running, State, memory_of, row_at, row_or}
 use Rattle.list_law.specs.Runs.{Sized}
 use Rattle.ledger.specs.Keys.{Permuted}
 use Rattle.list_law.specs.Law.{Entry, keys, Sound}
-use Rattle.list_law.proofs.Lists.{nth-set-same, nth-set-other, nth-there, nth-lt}
+use Rattle.list_law.proofs.Lists.{nth_set_same, nth_set_other, nth_there, nth_lt}
 use Rattle.list_law.proofs.Shape.{Shape}
 use Rattle.list_law.proofs.Marks.{Stands}
 
 -- the index's row for a row of the ledger
-abbrev pub rowFor : {K : Type 0} → plain.Row K → Row K
-rowFor plain.away = away
-rowFor plain.idle = idle
-rowFor (plain.running k x) = running k x
+abbrev pub row_for : {K : Type 0} → plain.Row K → Row K
+row_for plain.away = away
+row_for plain.idle = idle
+row_for (plain.running k x) = running k x
 
 -- a running seat's mark stands below its target; any other seat has none
 abbrev pub Placed : {K : Type 0} → (K → K → Bool) → List (Entry K) → plain.Row K → Option ℕ → Type 0
@@ -34,18 +34,18 @@ pub record Inv {K M : Type 0} (below : K → K → Bool) (table : M → Table) (
   pub rows : length s.rows ≡ 16
   pub listed : List (Entry K)
   pub frees : List (Entry K)
-  pub shape : Shape below (memoryOf s) n listed frees
+  pub shape : Shape below (memory_of s) n listed frees
   pub set : Permuted a.set (keys listed)
-  pub alike : (u : ℕ) → u < 16 → row_at s.rows u ≡ rowFor (a.row u)
+  pub alike : (u : ℕ) → u < 16 → row_at s.rows u ≡ row_for (a.row u)
   pub placed : (u : ℕ) → u < 16 → Placed below listed (a.row u) (table s.marks u)
 
-pub sound-of : {K M : Type 0} (below : K → K → Bool) (table : M → Table) (n w : ℕ) (a : Ledger K) (s : State K M) → Inv below table n w a s → Sound below a s
-sound-of below table n w a s v = record {
+pub sound_of : {K M : Type 0} (below : K → K → Bool) (table : M → Table) (n w : ℕ) (a : Ledger K) (s : State K M) → Inv below table n w a s → Sound below a s
+sound_of below table n w a s v = record {
   number = v.cells ∙ sym v.number;
   listed = v.listed;
   frees = v.frees;
-  from-head = v.shape.from-head;
-  from-free = v.shape.from-free;
+  from_head = v.shape.from_head;
+  from_free = v.shape.from_free;
   once = λ p h. v.shape.once p (omega (arith, h, v.number));
   rises = v.shape.rises;
   set = v.set;
@@ -55,36 +55,36 @@ sound-of below table n w a s v = record {
 -- rows of the ledger, and of the index
 
 module _ {K : Type 0} (a : Ledger K) (t : ℕ) (r : plain.Row K) where
-  pub seated-own : (seated a t r).row t ≡ r
-  seated-own = ap (λ b. cond b r (a.row t)) (eq-eqb t t refl)
+  pub seated_own : (seated a t r).row t ≡ r
+  seated_own = ap (λ b. cond b r (a.row t)) (eq-eqb t t refl)
 
-  pub seated-other : (u : ℕ) → u ≢ t → (seated a t r).row u ≡ a.row u
-  seated-other u h = ap (λ b. cond b r (a.row u)) (ne_eqb u t h)
+  pub seated_other : (u : ℕ) → u ≢ t → (seated a t r).row u ≡ a.row u
+  seated_other u h = ap (λ b. cond b r (a.row u)) (ne_eqb u t h)
 
 module _ {K : Type 0} (rs : List (Row K)) (t : ℕ) (r : Row K) where
-  pub row-own : t < length rs → row_at (set rs t r) t ≡ r
-  row-own h = ap rowOr (nth-set-same rs t r (nth-there rs t h).1)
+  pub row_own : t < length rs → row_at (set rs t r) t ≡ r
+  row_own h = ap row_or (nth_set_same rs t r (nth_there rs t h).1)
 
   pub row_other : (u : ℕ) → u ≢ t → row_at (set rs t r) u ≡ row_at rs u
-  row_other u h = ap rowOr (nth-set-other rs t u r h)
+  row_other u h = ap row_or (nth_set_other rs t u r h)
 
-abbrev pub isRunning : {K : Type 0} → Row K → Bool
-isRunning away = false
-isRunning idle = false
-isRunning (running k x) = true
+abbrev pub is_running : {K : Type 0} → Row K → Bool
+is_running away = false
+is_running idle = false
+is_running (running k x) = true
 
-pub running-there : {K : Type 0} (rs : List (Row K)) (u : ℕ) → isRunning (row_at rs u) ≡ true → u < length rs
-running-there rs u h = go (slice_get rs u) refl
+pub running_there : {K : Type 0} (rs : List (Row K)) (u : ℕ) → is_running (row_at rs u) ≡ true → u < length rs
+running_there rs u h = go (slice_get rs u) refl
   where
     go : (o : Option (Row _)) → slice_get rs u ≡ o → u < length rs
-    go None e = absurd (both_ways false refl (subst (λ o. isRunning (rowOr o) ≡ true) e h))
-    go (Some r) e = nth-lt rs u e
+    go None e = absurd (both_ways false refl (subst (λ o. is_running (row_or o) ≡ true) e h))
+    go (Some r) e = nth_lt rs u e
 
 -- what no mark gives
-pub placed-none : {K : Type 0} (below : K → K → Bool) (listed : List (Entry K)) (r : plain.Row K) (mark : Option ℕ) → mark ≡ None → Placed below listed r mark
-placed-none below listed plain.away mark h = h
-placed-none below listed plain.idle mark h = h
-placed-none below listed (plain.running k x) mark h = subst (Stands below x listed) (sym h) tt
+pub placed_none : {K : Type 0} (below : K → K → Bool) (listed : List (Entry K)) (r : plain.Row K) (mark : Option ℕ) → mark ≡ None → Placed below listed r mark
+placed_none below listed plain.away mark h = h
+placed_none below listed plain.idle mark h = h
+placed_none below listed (plain.running k x) mark h = subst (Stands below x listed) (sym h) tt
 
 -- marks that stand as before, or are none
 pub placed_on : {K : Type 0} (below : K → K → Bool) (listed listed' : List (Entry K)) (r : plain.Row K) (mark mark' : Option ℕ)
@@ -102,30 +102,30 @@ pub record After {K M : Type 0} (below : K → K → Bool) (table : M → Table)
   pub rows : length s'.rows ≡ length s.rows
   pub listed : List (Entry K)
   pub frees : List (Entry K)
-  pub shape : Shape below (memoryOf s') n listed frees
+  pub shape : Shape below (memory_of s') n listed frees
   pub set : Permuted a'.set (keys listed)
-  pub own_row : row_at s'.rows t ≡ rowFor (a'.row t)
-  pub own-mark : Placed below listed (a'.row t) (table s'.marks t)
-  pub other-ledger : (u : ℕ) → u ≢ t → a'.row u ≡ a.row u
-  pub other-rows : (u : ℕ) → u ≢ t → row_at s'.rows u ≡ row_at s.rows u
+  pub own_row : row_at s'.rows t ≡ row_for (a'.row t)
+  pub own_mark : Placed below listed (a'.row t) (table s'.marks t)
+  pub other_ledger : (u : ℕ) → u ≢ t → a'.row u ≡ a.row u
+  pub other_rows : (u : ℕ) → u ≢ t → row_at s'.rows u ≡ row_at s.rows u
   pub other_none : (u : ℕ) → u < 16 → u ≢ t → table s.marks u ≡ None → table s'.marks u ≡ None
-  pub other-marks : (u : ℕ) → u < 16 → u ≢ t → (x : K) → Stands below x before (table s.marks u) → Stands below x listed (table s'.marks u)
+  pub other_marks : (u : ℕ) → u < 16 → u ≢ t → (x : K) → Stands below x before (table s.marks u) → Stands below x listed (table s'.marks u)
 
 module _ {K M : Type 0} (below : K → K → Bool) (table : M → Table) (n w t : ℕ) (a : Ledger K) (s : State K M) (v : Inv below table n w a s) (a' : Ledger K) (s' : State K M)
     (f : After below table n t a s v.listed a' s') where
-  alike_at : (u : ℕ) → u < 16 → (u ≡ t) ⊎ (u ≡ t → ⊥) → row_at s'.rows u ≡ rowFor (a'.row u)
-  alike_at u l (inl e) = subst (λ z. row_at s'.rows z ≡ rowFor (a'.row z)) (sym e) f.own_row
-  alike_at u l (inr d) = f.other-rows u d ∙ v.alike u l ∙ ap rowFor (sym (f.other-ledger u d))
+  alike_at : (u : ℕ) → u < 16 → (u ≡ t) ⊎ (u ≡ t → ⊥) → row_at s'.rows u ≡ row_for (a'.row u)
+  alike_at u l (inl e) = subst (λ z. row_at s'.rows z ≡ row_for (a'.row z)) (sym e) f.own_row
+  alike_at u l (inr d) = f.other_rows u d ∙ v.alike u l ∙ ap row_for (sym (f.other_ledger u d))
 
   placed_at : (u : ℕ) → u < 16 → (u ≡ t) ⊎ (u ≡ t → ⊥) → Placed below f.listed (a'.row u) (table s'.marks u)
-  placed_at u l (inl e) = subst (λ z. Placed below f.listed (a'.row z) (table s'.marks z)) (sym e) f.own-mark
+  placed_at u l (inl e) = subst (λ z. Placed below f.listed (a'.row z) (table s'.marks z)) (sym e) f.own_mark
   placed_at u l (inr d) =
-      subst (λ r. Placed below f.listed r (table s'.marks u)) (sym (f.other-ledger u d))
-      (placed_on below v.listed f.listed (a.row u) (table s.marks u) (table s'.marks u) (f.other_none u l d) (f.other-marks u l d) (v.placed u l))
+      subst (λ r. Placed below f.listed r (table s'.marks u)) (sym (f.other_ledger u d))
+      (placed_on below v.listed f.listed (a.row u) (table s.marks u) (table s'.marks u) (f.other_none u l d) (f.other_marks u l d) (v.placed u l))
 
   -- the invariant goes on
-  pub inv-after : Inv below table n w a' s'
-  inv-after = record {
+  pub inv_after : Inv below table n w a' s'
+  inv_after = record {
     sized = v.sized;
     number = f.number ∙ v.number;
     cells = f.cells ∙ v.cells;

@@ -4,9 +4,9 @@ use Rattle.std.specs.List.{slice_get}
 use Rattle.keys.specs.Total.{Total}
 use Rattle.list_law.specs.Call.{Link, Cell, cell, Met, passed, present, absent, judged, met, look, followed, walk, resumed, walked}
 use Rattle.ledger.specs.Keys.{Every, Rises}
-use Rattle.list_law.specs.Law.{Entry, entry, keys, Leads, firstLink, behind, beyond, past}
-use Rattle.list_law.proofs.Chain.{keys-append, Lead, start, after, leads-split}
-use Rattle.ledger.proofs.Ordered.{every-join, rises-above, rises-below, rises-right, above-all, below_all, low-not-above}
+use Rattle.list_law.specs.Law.{Entry, entry, keys, Leads, first_link, behind, beyond, past}
+use Rattle.list_law.proofs.Chain.{keys_append, Lead, start, after, leads_split}
+use Rattle.ledger.proofs.Ordered.{every_join, rises_above, rises_below, rises_right, above_all, below_all, low_not_above}
 
 module _ {K : Type 0} (below : K → K → Bool) (cs : List (Cell K)) (x : K) where
   -- one link followed, with the entries ys ahead
@@ -24,18 +24,18 @@ module _ {K : Type 0} (below : K → K → Bool) (cs : List (Cell K)) (x : K) wh
         → Lead (xs ++ fs) lead → Leads cs true l bs None → Walked xs ys room (absent lead l)
 
 module _ {K : Type 0} (below : K → K → Bool) (order : Total below) (cs : List (Cell K)) (x : K) where
-  judged-view : (lead : Option ℕ) (p : ℕ) (y : K) (bs : List (Entry K)) (l : Link) → slice_get cs p ≡ Some (cell y l true) → Leads cs true l bs None → Rises below (y ∷ keys bs)
+  judged_view : (lead : Option ℕ) (p : ℕ) (y : K) (bs : List (Entry K)) (l : Link) → slice_get cs p ≡ Some (cell y l true) → Leads cs true l bs None → Rises below (y ∷ keys bs)
       → (a b : Bool) → below y x ≡ a → below x y ≡ b → Looked below cs x lead (entry p y ∷ bs) (judged a b lead p l)
-  judged-view lead p y bs l at h up true b e f = passes p y bs l refl e at h
-  judged-view lead p y bs l at h up false true e f = gone (Some p) (f, above-all below order x y (keys bs) f up.0) (l, refl, at, h)
-  judged-view lead p y bs l at h up false false e f = here p y bs l refl e f at h
+  judged_view lead p y bs l at h up true b e f = passes p y bs l refl e at h
+  judged_view lead p y bs l at h up false true e f = gone (Some p) (f, above_all below order x y (keys bs) f up.0) (l, refl, at, h)
+  judged_view lead p y bs l at h up false false e f = here p y bs l refl e f at h
 
-  look-view : (lead : Option ℕ) (l : Link) (ys : List (Entry K)) → Leads cs true l ys None → Rises below (keys ys) → Looked below cs x lead ys (look below cs x lead l)
-  look-view lead l [] h up = subst (λ l'. Looked below cs x lead [] (look below cs x lead l')) (sym h) (gone None tt refl)
-  look-view lead l (e ∷ bs) h up =
+  look_view : (lead : Option ℕ) (l : Link) (ys : List (Entry K)) → Leads cs true l ys None → Rises below (keys ys) → Looked below cs x lead ys (look below cs x lead l)
+  look_view lead l [] h up = subst (λ l'. Looked below cs x lead [] (look below cs x lead l')) (sym h) (gone None tt refl)
+  look_view lead l (e ∷ bs) h up =
       subst (λ l'. Looked below cs x lead (e ∷ bs) (look below cs x lead l')) (sym h.1)
       (subst (λ o. Looked below cs x lead (e ∷ bs) (met below x lead e.place o)) (sym h.2)
-      (judged-view lead e.place e.key bs h.0 h.2 h.3 up (below e.key x) (below x e.key) refl refl))
+      (judged_view lead e.place e.key bs h.0 h.2 h.3 up (below e.key x) (below x e.key) refl refl))
 
   -- an entry passed before the walk goes on
   longer : (xs : List (Entry K)) (p : ℕ) (y : K) (bs ys : List (Entry K)) (room : ℕ) (m : Met) → ys ≡ entry p y ∷ bs → below y x ≡ true
@@ -54,17 +54,17 @@ module _ {K : Type 0} (below : K → K → Bool) (order : Total below) (cs : Lis
   last_step xs ys lead m led (here p y bs l e a b at h) = finds [] lead p y bs l e (omega arith) tt a b (subst (λ r. Lead r lead) (sym (append-nil xs)) led) at h
   last_step xs ys lead m led (gone l hi h) = misses [] lead ys l refl (omega arith) tt hi (subst (λ r. Lead r lead) (sym (append-nil xs)) led) h
 
-  one-step : (room : ℕ) → Goes room → (xs ys : List (Entry K)) (lead : Option ℕ) (m : Met) → Lead xs lead → Rises below (keys ys) → Looked below cs x lead ys m
+  one_step : (room : ℕ) → Goes room → (xs ys : List (Entry K)) (lead : Option ℕ) (m : Met) → Lead xs lead → Rises below (keys ys) → Looked below cs x lead ys m
       → Walked below cs x xs ys (suc room) (followed m (λ p l. walk below cs x room (Some p) l))
-  one-step room go xs ys lead m led up (passes p y bs l e lo at h) =
+  one_step room go xs ys lead m led up (passes p y bs l e lo at h) =
       longer xs p y bs ys room (walk below cs x room (Some p) l) e lo (go (xs ++ entry p y ∷ []) bs (Some p) l (after xs p y) h (subst (λ (r : List (Entry K)). Rises below (keys r)) e up).1)
-  one-step room go xs ys lead m led up (here p y bs l e a b at h) = finds [] lead p y bs l e (omega arith) tt a b (subst (λ r. Lead r lead) (sym (append-nil xs)) led) at h
-  one-step room go xs ys lead m led up (gone l hi h) = misses [] lead ys l refl (omega arith) tt hi (subst (λ r. Lead r lead) (sym (append-nil xs)) led) h
+  one_step room go xs ys lead m led up (here p y bs l e a b at h) = finds [] lead p y bs l e (omega arith) tt a b (subst (λ r. Lead r lead) (sym (append-nil xs)) led) at h
+  one_step room go xs ys lead m led up (gone l hi h) = misses [] lead ys l refl (omega arith) tt hi (subst (λ r. Lead r lead) (sym (append-nil xs)) led) h
 
-  pub walk-view : (room : ℕ) → Goes room
+  pub walk_view : (room : ℕ) → Goes room
   unfolding walk
-  walk-view zero xs ys lead l led h up = last_step xs ys lead (look below cs x lead l) led (look-view lead l ys h up)
-  walk-view (suc room) xs ys lead l led h up = one-step room (walk-view room) xs ys lead (look below cs x lead l) led up (look-view lead l ys h up)
+  walk_view zero xs ys lead l led h up = last_step xs ys lead (look below cs x lead l) led (look_view lead l ys h up)
+  walk_view (suc room) xs ys lead l led h up = one_step room (walk_view room) xs ys lead (look below cs x lead l) led up (look_view lead l ys h up)
 
 -- where a mark stands, for an operation towards x: nowhere, or at a listed entry whose key is below x
 pub data Standing {K : Type 0} (below : K → K → Bool) (x : K) (listed : List (Entry K)) : Option ℕ → Type 0 where
@@ -79,7 +79,7 @@ pub record Started {K : Type 0} (below : K → K → Bool) (cs : List (Cell K)) 
   pub low : Every (λ z. below z x) (keys done)
   pub near : Every (λ z. not (beyond below cs mark z)) (keys done)
   pub far : Every (beyond below cs mark) (keys rest)
-  pub leads : Leads cs true (firstLink cs head mark) rest None
+  pub leads : Leads cs true (first_link cs head mark) rest None
   pub rises : Rises below (keys rest)
   pub view : Walked below cs x done rest room (walked below cs head x room mark)
 
@@ -89,26 +89,26 @@ every_true (k ∷ ks) = (refl, every_true ks)
 
 module _ {K : Type 0} (below : K → K → Bool) (order : Total below) (cs : List (Cell K)) (head : Link) (x : K) (listed : List (Entry K))
     (leads : Leads cs true head listed None) (rises : Rises below (keys listed)) where
-  from-mark : (room : ℕ) (fs : List (Entry K)) (p : ℕ) (y : K) (bs : List (Entry K)) → listed ≡ fs ++ entry p y ∷ bs → below y x ≡ true → Started below cs head x listed room (Some p)
-  from-mark room fs p y bs is low =
+  from_mark : (room : ℕ) (fs : List (Entry K)) (p : ℕ) (y : K) (bs : List (Entry K)) → listed ≡ fs ++ entry p y ∷ bs → below y x ≡ true → Started below cs head x listed room (Some p)
+  from_mark room fs p y bs is low =
       let whole : Leads cs true head (fs ++ entry p y ∷ bs) None = subst (λ r. Leads cs true head r None) is leads in
-      let up : Rises below (keys fs ++ y ∷ keys bs) = subst (Rises below) (ap keys is ∙ keys-append fs (entry p y ∷ bs)) rises in
-      let parts = leads-split true cs head fs (entry p y ∷ bs) None whole in
+      let up : Rises below (keys fs ++ y ∷ keys bs) = subst (Rises below) (ap keys is ∙ keys_append fs (entry p y ∷ bs)) rises in
+      let parts = leads_split true cs head fs (entry p y ∷ bs) None whole in
       let l : Link = parts.2.0 in
       let there : slice_get cs p ≡ Some (cell y l true) = parts.2.2 in
       record {
         done = fs ++ entry p y ∷ [];
         rest = bs;
         is = is ∙ sym (append_assoc fs (entry p y ∷ []) bs);
-        low = subst (Every (λ z. below z x)) (sym (keys-append fs (entry p y ∷ []))) (every-join (λ z. below z x) (keys fs) (y ∷ []) (below_all below order x y (keys fs) low (rises-below below (keys fs) y (keys bs) up)) (low, tt));
+        low = subst (Every (λ z. below z x)) (sym (keys_append fs (entry p y ∷ []))) (every_join (λ z. below z x) (keys fs) (y ∷ []) (below_all below order x y (keys fs) low (rises_below below (keys fs) y (keys bs) up)) (low, tt));
         near = subst (λ (o : Option (Cell K)). Every (λ z. not (past below o z)) (keys (fs ++ entry p y ∷ []))) (sym there)
-            (subst (Every (λ z. not (below y z))) (sym (keys-append fs (entry p y ∷ [])))
-            (every-join (λ z. not (below y z)) (keys fs) (y ∷ []) (low-not-above below order y (keys fs) (rises-below below (keys fs) y (keys bs) up)) (ap not (order.irreflexive y), tt)));
-        far = subst (λ (o : Option (Cell K)). Every (past below o) (keys bs)) (sym there) (rises-above below (keys fs) y (keys bs) up);
+            (subst (Every (λ z. not (below y z))) (sym (keys_append fs (entry p y ∷ [])))
+            (every_join (λ z. not (below y z)) (keys fs) (y ∷ []) (low_not_above below order y (keys fs) (rises_below below (keys fs) y (keys bs) up)) (ap not (order.irreflexive y), tt)));
+        far = subst (λ (o : Option (Cell K)). Every (past below o) (keys bs)) (sym there) (rises_above below (keys fs) y (keys bs) up);
         leads = subst (λ (o : Option (Cell K)). Leads cs true (behind o) bs None) (sym there) parts.2.3;
-        rises = (rises-right below (keys fs) (y ∷ keys bs) up).1;
+        rises = (rises_right below (keys fs) (y ∷ keys bs) up).1;
         view = subst (λ (o : Option (Cell K)). Walked below cs x (fs ++ entry p y ∷ []) bs room (resumed below cs x room p o)) (sym there)
-            (walk-view below order cs x room (fs ++ entry p y ∷ []) bs (Some p) l (after fs p y) parts.2.3 (rises-right below (keys fs) (y ∷ keys bs) up).1);
+            (walk_view below order cs x room (fs ++ entry p y ∷ []) bs (Some p) l (after fs p y) parts.2.3 (rises_right below (keys fs) (y ∷ keys bs) up).1);
       }
 
   pub started : (room : ℕ) (mark : Option ℕ) → Standing below x listed mark → Started below cs head x listed room mark
@@ -121,6 +121,6 @@ module _ {K : Type 0} (below : K → K → Bool) (order : Total below) (cs : Lis
     far = every_true (keys listed);
     leads = leads;
     rises = rises;
-    view = walk-view below order cs x room [] listed None head start leads rises;
+    view = walk_view below order cs x room [] listed None head start leads rises;
   }
-  started room mark (at fs p y bs is low) = from-mark room fs p y bs is low
+  started room mark (at fs p y bs is low) = from_mark room fs p y bs is low

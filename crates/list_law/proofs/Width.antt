@@ -4,21 +4,21 @@ use Rattle.std.proofs.Common.{◌≡◌, ℕ, zero, suc, ◌+◌, ◌*◌, ◌/�
 use Rattle.std.proofs.lemmas.Nat.{le-div}
 use Rattle.list_law.specs.Call.{reach}
 
-pub reach-is : (t w : ℕ) (mark : Option ℕ) → reach t w mark ≡ w
+pub reach_is : (t w : ℕ) (mark : Option ℕ) → reach t w mark ≡ w
 unfolding reach
-reach-is t w mark = refl
+reach_is t w mark = refl
 
-pub reach-some : (t w : ℕ) (mark : Option ℕ) → 1 ≤ w → 1 ≤ reach t w mark
+pub reach_some : (t w : ℕ) (mark : Option ℕ) → 1 ≤ w → 1 ≤ reach t w mark
 unfolding reach
-reach-some t w mark h = h
+reach_some t w mark h = h
 
-pub reach-least : (t w : ℕ) (mark : Option ℕ) → 1 ≤ w → reach t w None ≤ reach t w mark
+pub reach_least : (t w : ℕ) (mark : Option ℕ) → 1 ≤ w → reach t w None ≤ reach t w mark
 unfolding reach
-reach-least t w mark h = omega arith
+reach_least t w mark h = omega arith
 
-pub reach-again : (t w p : ℕ) → reach t w (Some p) ≡ w
+pub reach_again : (t w p : ℕ) → reach t w (Some p) ≡ w
 unfolding reach
-reach-again t w p = refl
+reach_again t w p = refl
 
 -- the least rank of a mark after c waits in a row: the first window from the head, and the others from a mark
 abbrev pub low : ℕ → ℕ → ℕ → ℕ
@@ -29,6 +29,6 @@ low t w (suc c) = reach t w None + c * w
 abbrev pub most : ℕ → ℕ → ℕ → ℕ
 most n w t = n / w
 
-pub most-holds : (n w t c : ℕ) → 1 ≤ w → low t w (suc c) ≤ n → suc c ≤ most n w t
+pub most_holds : (n w t c : ℕ) → 1 ≤ w → low t w (suc c) ≤ n → suc c ≤ most n w t
 unfolding reach
-most-holds n w t c wide h = le-div (suc c) n w wide (omega (arith, h))
+most_holds n w t c wide h = le-div (suc c) n w wide (omega (arith, h))

@@ -127,9 +127,9 @@ abbrev pub flagged : {K : Type 0} → Bool → Cell K → Cell K
 flagged b c = cell c.key c.link b
 
 -- the link behind a place, or the head link, is set
-abbrev pub leadingSet : {K : Type 0} → Option ℕ → Link → Memory K → Memory K
-leadingSet None l m = memory m.cells l m.free
-leadingSet (Some q) l m = memory (rewritten m.cells q (linked l)) m.head m.free
+abbrev pub leading_set : {K : Type 0} → Option ℕ → Link → Memory K → Memory K
+leading_set None l m = memory m.cells l m.free
+leading_set (Some q) l m = memory (rewritten m.cells q (linked l)) m.head m.free
 
 -- the cell at place p is flagged free, and then put at the front of the free chain
 abbrev pub freed : {K : Type 0} → ℕ → Memory K → Memory K
@@ -137,11 +137,11 @@ freed p m = memory (rewritten (rewritten m.cells p (flagged false)) p (linked m.
 
 -- remove, in the order of its writes: the link that led to place p gets p's own link, and p becomes free
 abbrev pub removed : {K : Type 0} → Option ℕ → ℕ → Link → Memory K → Memory K
-removed lead p l m = freed p (leadingSet lead l m)
+removed lead p l m = freed p (leading_set lead l m)
 
 -- insert, in the order of its writes: the front free cell, at place q with link f, leaves the free chain, takes key, link and flag, and is linked to
 abbrev pub inserted : {K : Type 0} → Option ℕ → Link → K → ℕ → Link → Memory K → Memory K
-inserted lead l x q f m = leadingSet lead (Some q) (memory (rewritten m.cells q (λ _. cell x l true)) m.head f)
+inserted lead l x q f m = leading_set lead (Some q) (memory (rewritten m.cells q (λ _. cell x l true)) m.head f)
 
 -- what a call does: its answer, what the ledger is told, cells and chains afterwards, the seat's next row if it changes, and the
 -- orders to the scheme, to be carried out one after another
@@ -170,10 +170,10 @@ unlinked t lead p l m =
     record { answer = Yes; told = nothing; memory = removed lead p l m; row = Some idle; orders = revoke p ∷ release t ∷ [] }
 
 -- the target is there
-abbrev pub onPresent : {K : Type 0} → Kind → ℕ → Option ℕ → ℕ → Link → Memory K → Effect K
-onPresent Lookup t lead p l m = ended t Yes m
-onPresent Insert t lead p l m = ended t No m
-onPresent Remove t lead p l m = unlinked t lead p l m
+abbrev pub on_present : {K : Type 0} → Kind → ℕ → Option ℕ → ℕ → Link → Memory K → Effect K
+on_present Lookup t lead p l m = ended t Yes m
+on_present Insert t lead p l m = ended t No m
+on_present Remove t lead p l m = unlinked t lead p l m
 
 -- an insert with the cell at place q, the front of the free chain: it must be there and be free
 abbrev pub taken : {K : Type 0} → K → ℕ → Option ℕ → Link → Memory K → ℕ → Option (Cell K) → Effect K
@@ -181,22 +181,22 @@ taken x t lead l m q None = refused m BadLink
 taken x t lead l m q (Some c) = cond c.listed (refused m BadLink) (ended t Yes (inserted lead l x q c.link m))
 
 -- an insert by the free link: full if no cell is free
-abbrev pub takenFrom : {K : Type 0} → K → ℕ → Option ℕ → Link → Memory K → Link → Effect K
-takenFrom x t lead l m None = ended t Full m
-takenFrom x t lead l m (Some q) = taken x t lead l m q (slice_get m.cells q)
+abbrev pub taken_from : {K : Type 0} → K → ℕ → Option ℕ → Link → Memory K → Link → Effect K
+taken_from x t lead l m None = ended t Full m
+taken_from x t lead l m (Some q) = taken x t lead l m q (slice_get m.cells q)
 
 -- the target is missing
-abbrev pub onAbsent : {K : Type 0} → Kind → K → ℕ → Option ℕ → Link → Memory K → Effect K
-onAbsent Lookup x t lead l m = ended t No m
-onAbsent Insert x t lead l m = takenFrom x t lead l m m.free
-onAbsent Remove x t lead l m = ended t No m
+abbrev pub on_absent : {K : Type 0} → Kind → K → ℕ → Option ℕ → Link → Memory K → Effect K
+on_absent Lookup x t lead l m = ended t No m
+on_absent Insert x t lead l m = taken_from x t lead l m m.free
+on_absent Remove x t lead l m = ended t No m
 
 -- what a window does, by where its walk ended
 abbrev pub decided : {K : Type 0} → Kind → K → ℕ → Memory K → Met → Effect K
 decided k x t m bad = refused m BadLink
 decided k x t m (passed p l) = waiting t p m
-decided k x t m (present lead p l) = onPresent k t lead p l m
-decided k x t m (absent lead l) = onAbsent k x t lead l m
+decided k x t m (present lead p l) = on_present k t lead p l m
+decided k x t m (absent lead l) = on_absent k x t lead l m
 
 -- one window of seat t, whose mark is given
 unfoldable pub window : {K : Type 0} → (K → K → Bool) → Memory K → ℕ → ℕ → Option ℕ → Kind → K → Effect K
@@ -227,56 +227,56 @@ turn t (running k x) step = runs k x
 turn t (running k x) abandon = becomes idle (release t ∷ [])
 
 -- the effect of a turn
-abbrev pub turnEffect : {K : Type 0} → (K → K → Bool) → Memory K → ℕ → ℕ → Option ℕ → Turn K → Effect K
-turnEffect below m t w mark (refuses r) = refused m r
-turnEffect below m t w mark (becomes r os) = record { answer = Ok; told = nothing; memory = m; row = Some r; orders = os }
-turnEffect below m t w mark (runs k x) = window below m t w mark k x
+abbrev pub turn_effect : {K : Type 0} → (K → K → Bool) → Memory K → ℕ → ℕ → Option ℕ → Turn K → Effect K
+turn_effect below m t w mark (refuses r) = refused m r
+turn_effect below m t w mark (becomes r os) = record { answer = Ok; told = nothing; memory = m; row = Some r; orders = os }
+turn_effect below m t w mark (runs k x) = window below m t w mark k x
 
 -- the sizes of cells and anchor are right
-abbrev pub sizesFit : {K : Type 0} → List (Cell K) → Anchor → Bool
-sizesFit cs a =
+abbrev pub sizes_fit : {K : Type 0} → List (Cell K) → Anchor → Bool
+sizes_fit cs a =
     nat_le 1 (length cs) && nat_le (length cs) 1008 && length cs == a.count && nat_le 1 a.window && nat_le a.window 64
 
 -- the refusals that depend on no row, in their order
 abbrev pub refusals : {K M : Type 0} → State K M → Call K → List Test
 refusals s c =
     test (not (nat_lt c.seat 16)) OutOfRange ∷
-    test (not (sizesFit s.cells s.anchor)) WrongSizes ∷
+    test (not (sizes_fit s.cells s.anchor)) WrongSizes ∷
     test (not (length s.rows == 16)) WrongSizes ∷
     test (not (nat_lt c.level 7)) MaskRaised ∷ []
 
 -- a row that there is; where a row is asked for there are sixteen
-abbrev pub rowOr : {K : Type 0} → Option (Row K) → Row K
-rowOr None = away
-rowOr (Some r) = r
+abbrev pub row_or : {K : Type 0} → Option (Row K) → Row K
+row_or None = away
+row_or (Some r) = r
 
 -- the row of a seat
 abbrev pub row_at : {K : Type 0} → List (Row K) → ℕ → Row K
-row_at rs t = rowOr (slice_get rs t)
+row_at rs t = row_or (slice_get rs t)
 
 -- the part of a state that a window writes
-abbrev pub memoryOf : {K M : Type 0} → State K M → Memory K
-memoryOf s = memory s.cells s.anchor.head s.anchor.free
+abbrev pub memory_of : {K M : Type 0} → State K M → Memory K
+memory_of s = memory s.cells s.anchor.head s.anchor.free
 
 -- refused by the first tests, or else what row and call together make of it
-abbrev pub callEffect : {K M : Type 0} → (K → K → Bool) → (M → Table) → State K M → Call K → Option Refusal → Effect K
-callEffect below table s c (Some r) = refused (memoryOf s) r
-callEffect below table s c None =
-    turnEffect below (memoryOf s) c.seat s.anchor.window (table s.marks c.seat)
+abbrev pub call_effect : {K M : Type 0} → (K → K → Bool) → (M → Table) → State K M → Call K → Option Refusal → Effect K
+call_effect below table s c (Some r) = refused (memory_of s) r
+call_effect below table s c None =
+    turn_effect below (memory_of s) c.seat s.anchor.window (table s.marks c.seat)
     (turn c.seat (row_at s.rows c.seat) c.what)
 
 -- what a call does to the state that it is lent; the sizes are those of the lent cells and rows
 unfoldable pub effect : {K M : Type 0} → (K → K → Bool) → (M → Table) → State K M → Call K → Effect K
-effect below table s c = callEffect below table s c (first (refusals s c))
+effect below table s c = call_effect below table s c (first (refusals s c))
 
 -- the anchor with the chains that an effect leaves
-abbrev pub anchorAfter : {K : Type 0} → Anchor → Memory K → Anchor
-anchorAfter a m = record { count = a.count; window = a.window; head = m.head; free = m.free }
+abbrev pub anchor_after : {K : Type 0} → Anchor → Memory K → Anchor
+anchor_after a m = record { count = a.count; window = a.window; head = m.head; free = m.free }
 
 -- the rows with the row that an effect leaves seat t
-abbrev pub rowsAfter : {K : Type 0} → List (Row K) → ℕ → Option (Row K) → List (Row K)
-rowsAfter rs t None = rs
-rowsAfter rs t (Some r) = slice_set rs t r
+abbrev pub rows_after : {K : Type 0} → List (Row K) → ℕ → Option (Row K) → List (Row K)
+rows_after rs t None = rs
+rows_after rs t (Some r) = slice_set rs t r
 
 -- a scheme carries out an order: with its own exact effect, and with the meaning that every scheme shows
 abbrev pub Obeys : {M : Type 0} → (M → Table) → Bool → (Order → M → M → Type 0) → Order → M → M → Type 0
@@ -287,6 +287,6 @@ pub record Did {K M : Type 0} (below : K → K → Bool) (table : M → Table) (
     (s : State K M) (c : Call K) (a : Answer) (s' : State K M) : Type 0 where
   pub answer : a ≡ (effect below table s c).answer
   pub cells : s'.cells ≡ (effect below table s c).memory.cells
-  pub anchor : s'.anchor ≡ anchorAfter s.anchor (effect below table s c).memory
-  pub rows : s'.rows ≡ rowsAfter s.rows c.seat (effect below table s c).row
+  pub anchor : s'.anchor ≡ anchor_after s.anchor (effect below table s c).memory
+  pub rows : s'.rows ≡ rows_after s.rows c.seat (effect below table s c).row
   pub marks : Along (Obeys table strict acts) (effect below table s c).orders s.marks s'.marks

@@ -5,7 +5,7 @@ use Rattle.marks.specs.Meaning.{Table, Order}
 use Rattle.ledger.specs.Ledger.{Call}
 use Rattle.ledger.specs.Law.{Event, Run, Lawful}
 use Rattle.list_law.specs.Call.{State, Did}
-use Rattle.list_law.specs.Law.{listIndex}
+use Rattle.list_law.specs.Law.{list_index}
 use Rattle.list_law.specs.Performed.{Ask, called}
 use Rattle.list_law.specs.Continued.{limit}
 
@@ -14,13 +14,13 @@ abbrev pub asked : {K : Type 0} → ℕ → Ask K → Call K
 asked n k = record { what = k.what; seat = k.seat; level = k.level; cells = n; rows = 16 }
 
 -- the calls and the answers of events, in their order (the events have the newest first)
-abbrev pub callsIn : {K : Type 0} → List (Event K) → List (Call K)
-callsIn [] = []
-callsIn (e ∷ es) = callsIn es ++ e.call ∷ []
+abbrev pub calls_in : {K : Type 0} → List (Event K) → List (Call K)
+calls_in [] = []
+calls_in (e ∷ es) = calls_in es ++ e.call ∷ []
 
-abbrev pub answersIn : {K : Type 0} → List (Event K) → List Answer
-answersIn [] = []
-answersIn (e ∷ es) = answersIn es ++ e.answer ∷ []
+abbrev pub answers_in : {K : Type 0} → List (Event K) → List Answer
+answers_in [] = []
+answers_in (e ∷ es) = answers_in es ++ e.answer ∷ []
 
 -- these calls, made in turn on the index's own cells and rows, lead from s to s' with these answers, each as one call is defined
 abbrev pub InTurn : {K M : Type 0} → (K → K → Bool) → (M → Table) → Bool → (Order → M → M → Type 0) → State K M → List (Ask K) → List Answer → State K M → Type 0
@@ -34,9 +34,9 @@ InTurn {K} {M} below table strict acts s (k ∷ ks) (a ∷ bs) s' =
 -- them a run, and lawful
 pub record Driven {K M : Type 0} (below : K → K → Bool) (table : M → Table) (strict : Bool) (acts : Order → M → M → Type 0)
     (n w : ℕ) (start : State K M) (asks : List (Ask K)) (answers : List Answer) (s : State K M) : Type 0 where
-  pub in-turn : InTurn below table strict acts start asks answers s
+  pub in_turn : InTurn below table strict acts start asks answers s
   pub events : List (Event K)
-  pub calls : callsIn events ≡ map (asked n) asks
-  pub answered : answersIn events ≡ answers
-  pub run : Run (listIndex below table strict acts) n w events s
-  pub lawful : Lawful below (listIndex below table strict acts) n w (limit n w) events s run
+  pub calls : calls_in events ≡ map (asked n) asks
+  pub answered : answers_in events ≡ answers
+  pub run : Run (list_index below table strict acts) n w events s
+  pub lawful : Lawful below (list_index below table strict acts) n w (limit n w) events s run

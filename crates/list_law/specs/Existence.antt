@@ -5,7 +5,7 @@ use Rattle.ledger.specs.Ledger.{Call}
 use Rattle.ledger.specs.Law.{Event, Run}
 use Rattle.list_law.specs.Call.{Cell, State, Obeys}
 use Rattle.list_law.specs.Runs.{Made, Next}
-use Rattle.list_law.specs.Law.{listIndex}
+use Rattle.list_law.specs.Law.{list_index}
 
 -- an order that names a seat and a place that there are
 abbrev pub Proper : Order → Type 0
@@ -24,7 +24,7 @@ pub record Runs {K M : Type 0} (below : K → K → Bool) (table : M → Table) 
   -- for 1 to `most` cells, windows of 1 to `widest` and all given cells there is an accepted making over those cells
   pub makes : (n w : ℕ) → 1 ≤ n → n ≤ most → 1 ≤ w → w ≤ widest → (given : List (Cell K)) → length given ≡ n → (s : State K M) × (d : Made table n w s) × (d.given ≡ given)
   -- after every run, every call has a next event, whatever numbers of cells and rows it is lent
-  pub goes_on : (n w : ℕ) (es : List (Event K)) (s : State K M) → Run (listIndex below table strict acts) n w es s →
+  pub goes_on : (n w : ℕ) (es : List (Event K)) (s : State K M) → Run (list_index below table strict acts) n w es s →
       (c : Call K) → (e : Event K) × (s' : State K M) × Next below table strict acts s e s' × (e.call ≡ c)
 
 -- the plain scheme: its value is the table itself, and its acts are whatever the meaning allows
@@ -33,5 +33,5 @@ unconstrained o a b = Unit {0}
 
 -- there are runs over every scheme that can carry out its orders, and the plain scheme can, strict or relaxed
 pub record RunsAreThere {K : Type 0} (below : K → K → Bool) {M : Type 0} (table : M → Table) (strict : Bool) (acts : Order → M → M → Type 0) (most widest : ℕ) : Type 0 where
-  pub over-scheme : Able table strict acts → Runs below table strict acts most widest
-  pub over-tables : (keeps : Bool) → Runs below (λ (m : Table). m) keeps unconstrained most widest
+  pub over_scheme : Able table strict acts → Runs below table strict acts most widest
+  pub over_tables : (keeps : Bool) → Runs below (λ (m : Table). m) keeps unconstrained most widest

@@ -9,7 +9,7 @@ use Rattle.marks.specs.Meaning.{Table, Order}
 use Rattle.ledger.specs.Ledger.{Ledger, running, step}
 use Rattle.ledger.specs.Keys.{Every, Rises, Permuted, between}
 use Rattle.ledger.specs.Law as law
-use Rattle.ledger.specs.Law.{Event, Index, isAccepted, Run}
+use Rattle.ledger.specs.Law.{Event, Index, is_accepted, Run}
 use Rattle.list_law.specs.Call.{Link, Cell, cell, State, reach}
 use Rattle.list_law.specs.Runs.{Made, Next}
 
@@ -50,8 +50,8 @@ pub record Sound {K M : Type 0} (below : K → K → Bool) (a : Ledger K) (s : S
   -- the cells met from the head, all listed, and those met from the free link, all free; both to the end
   pub listed : List (Entry K)
   pub frees : List (Entry K)
-  pub from-head : Leads s.cells true s.anchor.head listed None
-  pub from-free : Leads s.cells false s.anchor.free frees None
+  pub from_head : Leads s.cells true s.anchor.head listed None
+  pub from_free : Leads s.cells false s.anchor.free frees None
   -- every cell is met once in all
   pub once : (p : ℕ) → p < a.number → times p listed + times p frees ≡ 1
   -- each listed key is below the next, and the listed keys are the set's, key for key
@@ -65,9 +65,9 @@ behind None = None
 behind (Some c) = c.link
 
 -- the link that a window follows first: that of the marked cell, or the head if there is no mark
-abbrev pub firstLink : {K : Type 0} → List (Cell K) → Link → Option ℕ → Link
-firstLink cs head None = head
-firstLink cs head (Some p) = behind (slice_get cs p)
+abbrev pub first_link : {K : Type 0} → List (Cell K) → Link → Option ℕ → Link
+first_link cs head None = head
+first_link cs head (Some p) = behind (slice_get cs p)
 
 -- by links from a, m cells are met, the last at place p, whose keys are all below x
 pub record Meets {K : Type 0} (below : K → K → Bool) (cs : List (Cell K)) (a : Link) (x : K) (m : ℕ) (p : ℕ) : Type 0 where
@@ -77,7 +77,7 @@ pub record Meets {K : Type 0} (below : K → K → Bool) (cs : List (Cell K)) (a
   pub links : Links cs a (before ++ entry p key ∷ []) end
   pub long : suc (length before) ≡ m
   pub small : Every (λ y. below y x) (keys before)
-  pub last-small : below key x ≡ true
+  pub last_small : below key x ≡ true
 
 -- a key lies beyond that of a cell
 abbrev pub past : {K : Type 0} → (K → K → Bool) → Option (Cell K) → K → Bool
@@ -93,36 +93,36 @@ beyond below cs (Some p) y = past below (slice_get cs p) y
 pub record Waits {K : Type 0} (below : K → K → Bool) (cs : List (Cell K)) (head : Link) (set : List K)
     (mark mark' : Option ℕ) (x : K) (m : ℕ) (b : Answer) : Type 0 where
   -- it waits exactly where m cells are met whose keys are all below the target
-  pub waits : (b ≡ Wait) ↔ ((p : ℕ) × Meets below cs (firstLink cs head mark) x m p)
+  pub waits : (b ≡ Wait) ↔ ((p : ℕ) × Meets below cs (first_link cs head mark) x m p)
   -- and then its mark is the last of these
-  pub marked : (p : ℕ) → Meets below cs (firstLink cs head mark) x m p → mark' ≡ Some p
+  pub marked : (p : ℕ) → Meets below cs (first_link cs head mark) x m p → mark' ≡ Some p
   -- it waits exactly where at least m keys of the ledger's set lie beyond the mark and below the target
-  pub waits-by-set : (b ≡ Wait) ↔ (m ≤ between below (beyond below cs mark) x set)
+  pub waits_by_set : (b ≡ Wait) ↔ (m ≤ between below (beyond below cs mark) x set)
 
 -- every accepted step of a seat that the ledger has running waits by the rule, with the width that its window has
 abbrev pub Rule : {K M : Type 0} → (K → K → Bool) → (M → Table) → Ledger K → State K M → Event K → State K M → Type 0
 Rule {K} below table a s e s' =
-    (k : Kind) (x : K) → e.call.what ≡ step → a.row e.call.seat ≡ running k x → isAccepted e.answer ≡ true →
+    (k : Kind) (x : K) → e.call.what ≡ step → a.row e.call.seat ≡ running k x → is_accepted e.answer ≡ true →
     Waits below s.cells s.anchor.head a.set (table s.marks e.call.seat) (table s'.marks e.call.seat) x
     (reach e.call.seat s.anchor.window (table s.marks e.call.seat)) e.answer
 
 -- the singly linked index over a scheme, as the law sees it
-abbrev pub listIndex : {K M : Type 0} → (K → K → Bool) → (M → Table) → Bool → (Order → M → M → Type 0) → Index K
-listIndex {K} {M} below table strict acts = record
+abbrev pub list_index : {K M : Type 0} → (K → K → Bool) → (M → Table) → Bool → (Order → M → M → Type 0) → Index K
+list_index {K} {M} below table strict acts = record
     { State = State K M; Made = Made table; Next = Next below table strict acts; Rule = Rule below table; Sound = Sound below; strict = strict }
 
 -- the law of the singly linked index over a scheme: every run of it is lawful, with this limit by cells, window, seat, kind and changes
 abbrev pub Law : {K M : Type 0} → (K → K → Bool) → (M → Table) → Bool → (Order → M → M → Type 0) → (ℕ → ℕ → ℕ → Kind → ℕ → ℕ) → Type 0
-Law below table strict acts = law.Law below (listIndex below table strict acts)
+Law below table strict acts = law.Law below (list_index below table strict acts)
 
 -- the rule of waits alone, of every accepted step of a running seat after every run: with the width `width w`, w being the window that
 -- the index was made with, and with the mark at `place p` for each place p that is the last of so many cells
 abbrev pub Windows : {K M : Type 0} → (K → K → Bool) → (M → Table) → Bool → (Order → M → M → Type 0) → (ℕ → ℕ) → (ℕ → ℕ) → Type 0
 Windows {K} {M} below table strict acts width place =
-    (n w : ℕ) (es : List (Event K)) (s : State K M) → Run (listIndex below table strict acts) n w es s →
+    (n w : ℕ) (es : List (Event K)) (s : State K M) → Run (list_index below table strict acts) n w es s →
     (e : Event K) (s' : State K M) → Next below table strict acts s e s' → (k : Kind) (x : K) →
-    e.call.what ≡ step → (law.fed below n es).row e.call.seat ≡ running k x → isAccepted e.answer ≡ true →
+    e.call.what ≡ step → (law.fed below n es).row e.call.seat ≡ running k x → is_accepted e.answer ≡ true →
     Waits below s.cells s.anchor.head (law.fed below n es).set (table s.marks e.call.seat) (table s'.marks e.call.seat) x
     (width w) e.answer
-    × ((p : ℕ) → Meets below s.cells (firstLink s.cells s.anchor.head (table s.marks e.call.seat)) x (width w) p →
+    × ((p : ℕ) → Meets below s.cells (first_link s.cells s.anchor.head (table s.marks e.call.seat)) x (width w) p →
     table s'.marks e.call.seat ≡ Some (place p))

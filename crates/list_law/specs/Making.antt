@@ -13,13 +13,13 @@ abbrev pub makes : ℕ → ℕ → ℕ → Bool
 makes cells rows window = nat_le 1 cells && nat_le cells 1008 && rows == 16 && nat_le 1 window && nat_le window 64
 
 -- releases of the seats from t on, so many
-abbrev pub releases-from : ℕ → ℕ → List Order
-releases-from t zero = []
-releases-from t (suc n) = release t ∷ releases-from (suc t) n
+abbrev pub releases_from : ℕ → ℕ → List Order
+releases_from t zero = []
+releases_from t (suc n) = release t ∷ releases_from (suc t) n
 
 -- all sixteen marks are released, one after another
 abbrev pub releases : List Order
-releases = releases-from 0 16
+releases = releases_from 0 16
 
 -- an index over the given cells: all free and chained, keys as they were, sixteen seats away
 abbrev pub made_of : {K M : Type 0} → List (Cell K) → ℕ → M → State K M

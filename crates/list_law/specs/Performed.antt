@@ -5,7 +5,7 @@ use Rattle.marks.specs.Meaning.{Table, Order}
 use Rattle.marks.specs.Carried.{carried}
 use Rattle.ledger.specs.Ledger.{Call, What}
 use Rattle.ledger.specs.Law.{Event}
-use Rattle.list_law.specs.Call.{Cell, State, effect, anchorAfter, rowsAfter}
+use Rattle.list_law.specs.Call.{Cell, State, effect, anchor_after, rows_after}
 use Rattle.list_law.specs.Making.{releases, made_of}
 
 -- what a seat asks, at which mask level
@@ -26,7 +26,7 @@ module _ {K M : Type 0} (below : K → K → Bool) (table : M → Table) (act : 
   unfoldable pub next : State K M → Ask K → State K M
   next s k =
       let f = effect below table s (called s k) in
-      record { cells = f.memory.cells; rows = rowsAfter s.rows k.seat f.row; anchor = anchorAfter s.anchor f.memory; marks = carried act f.orders s.marks }
+      record { cells = f.memory.cells; rows = rows_after s.rows k.seat f.row; anchor = anchor_after s.anchor f.memory; marks = carried act f.orders s.marks }
 
   -- the same for a list of calls: the state, the events (newest first), and the answers (in order)
   unfoldable pub after : State K M → List (Ask K) → State K M
@@ -42,5 +42,5 @@ module _ {K M : Type 0} (below : K → K → Bool) (table : M → Table) (act : 
   answers s (k ∷ ks) = (event s k).answer ∷ answers (next s k) ks
 
   -- the answers of calls on an index that is made over given cells with window w, the scheme being in state m before
-  unfoldable pub answersFrom : List (Cell K) → ℕ → M → List (Ask K) → List Answer
-  answersFrom given w m ks = answers (made_of given w (carried act releases m)) ks
+  unfoldable pub answers_from : List (Cell K) → ℕ → M → List (Ask K) → List Answer
+  answers_from given w m ks = answers (made_of given w (carried act releases m)) ks

@@ -19,9 +19,9 @@ chained p (c ∷ cs) = cell c.key (onward (suc p) cs) false ∷ chained (suc p) 
 
 -- the sizes that an accepted making takes
 pub record Sized (n w : ℕ) : Type 0 where
-  pub some-cells : 1 ≤ n
-  pub few-cells : n ≤ 1008
-  pub some-window : 1 ≤ w
+  pub some_cells : 1 ≤ n
+  pub few_cells : n ≤ 1008
+  pub some_window : 1 ≤ w
   pub narrow : w ≤ 64
 
 -- an accepted making over some n given cells with window w: all cells free and chained, nothing listed, sixteen seats away,
@@ -49,15 +49,15 @@ pub record Next {K M : Type 0} (below : K → K → Bool) (table : M → Table) 
   pub lent : State K M
   pub left : State K M
   -- the anchor and the scheme are the index's own
-  pub lent-anchor : lent.anchor ≡ s.anchor
-  pub lent-marks : lent.marks ≡ s.marks
+  pub lent_anchor : lent.anchor ≡ s.anchor
+  pub lent_marks : lent.marks ≡ s.marks
   pub anchor : s'.anchor ≡ left.anchor
   pub marks : s'.marks ≡ left.marks
   -- cells and rows may be others
   pub cells : Lent e.answer s.cells s'.cells lent.cells left.cells
   pub rows : Lent e.answer s.rows s'.rows lent.rows left.rows
   -- the event has the numbers that were lent, this answer, and what the ledger is to be told
-  pub cells-number : e.call.cells ≡ length lent.cells
-  pub rows-number : e.call.rows ≡ length lent.rows
+  pub cells_number : e.call.cells ≡ length lent.cells
+  pub rows_number : e.call.rows ≡ length lent.rows
   pub did : Did below table strict acts lent e.call e.answer left
   pub told : e.told ≡ (effect below table lent e.call).told

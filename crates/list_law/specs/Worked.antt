@@ -7,12 +7,12 @@ use Rattle.basis.specs.declared.answer.Answer.{Answer}
 use Rattle.basis.specs.declared.answer.Answer.TheVariants.{No, Yes, Ok, Wait, Full}
 use Rattle.keys.specs.declared.sector.Sector.{Sector}
 use Rattle.marks.specs.Meaning.{Order}
-use Rattle.marks.specs.Full.{full-new, full-act, full-get}
+use Rattle.marks.specs.Full.{full_new, full_act, full_get}
 use Rattle.ledger.specs.Ledger.{What, join, begin, step}
-use Rattle.ledger.specs.Law.{Event, Index, Run, count, steps_of, endsOf}
+use Rattle.ledger.specs.Law.{Event, Index, Run, count, steps_of, ends_of}
 use Rattle.list_law.specs.Call.{Cell, cell, away, State}
 use Rattle.list_law.specs.Runs.{chained}
-use Rattle.list_law.specs.Law.{listIndex, Law, Windows}
+use Rattle.list_law.specs.Law.{list_index, Law, Windows}
 use Rattle.list_law.specs.Performed.{Ask, after, events, answers}
 
 -- the sector of this number
@@ -20,20 +20,20 @@ abbrev pub sector : ℕ → Sector
 sector n = record { number = n }
 
 -- sectors are in order of their numbers
-abbrev pub sector-below : Sector → Sector → Bool
-sector-below x y = nat_lt x.number y.number
+abbrev pub sector_below : Sector → Sector → Bool
+sector_below x y = nat_lt x.number y.number
 
 -- the marks of the full scheme, by numbers
 abbrev pub Marks : Type 0
 Marks = List (Option ℕ)
 
 -- what the full scheme makes of an order, exactly
-abbrev pub full-acts : Order → Marks → Marks → Type 0
-full-acts o a b = b ≡ full-act o a
+abbrev pub full_acts : Order → Marks → Marks → Type 0
+full_acts o a b = b ≡ full_act o a
 
 -- the index on sectors over the full scheme
 abbrev pub index : Index Sector
-index = listIndex sector-below full-get true full-acts
+index = list_index sector_below full_get true full_acts
 
 -- three cells as given, made with a window
 abbrev pub begun : Cell Sector → Cell Sector → Cell Sector → ℕ → State Sector Marks
@@ -41,18 +41,18 @@ begun a b c w = record {
   cells = chained 0 (a ∷ (b ∷ (c ∷ [])));
   rows = replicate 16 away;
   anchor = record { count = 3; window = w; head = None; free = Some 0 };
-  marks = full-new;
+  marks = full_new;
 }
 
 -- calls made one after another on such an index: the state, the events and the answers
-abbrev pub stateAfter : State Sector Marks → List (Ask Sector) → State Sector Marks
-stateAfter = after sector-below full-get full-act
+abbrev pub state_after : State Sector Marks → List (Ask Sector) → State Sector Marks
+state_after = after sector_below full_get full_act
 
-abbrev pub eventsOf : State Sector Marks → List (Ask Sector) → List (Event Sector)
-eventsOf = events sector-below full-get full-act
+abbrev pub events_of : State Sector Marks → List (Ask Sector) → List (Event Sector)
+events_of = events sector_below full_get full_act
 
-abbrev pub answersOf : State Sector Marks → List (Ask Sector) → List Answer
-answersOf = answers sector-below full-get full-act
+abbrev pub answers_of : State Sector Marks → List (Ask Sector) → List Answer
+answers_of = answers sector_below full_get full_act
 
 -- seat t asks, with interrupts open
 abbrev pub asks : ℕ → What Sector → Ask Sector
@@ -101,23 +101,23 @@ deciding = waiting ++ asks 0 step ∷ []
 
 -- the runs, over any three given cells: the place that seat 1 has marked after the opening, and the steps of the last lookup
 pub record Worked (a b c : Cell Sector) (place steps : ℕ) : Type 0 where
-  pub run : Run index 3 2 (eventsOf (begun a b c 2) (opening ++ closing)) (stateAfter (begun a b c 2) (opening ++ closing))
-  pub opens : answersOf (begun a b c 2) opening
+  pub run : Run index 3 2 (events_of (begun a b c 2) (opening ++ closing)) (state_after (begun a b c 2) (opening ++ closing))
+  pub opens : answers_of (begun a b c 2) opening
       ≡ Ok ∷ Ok ∷ Yes ∷ Ok ∷ Yes ∷ Ok ∷ Wait ∷ Yes ∷ Ok ∷ Wait ∷ Full ∷ Ok ∷ No ∷ Ok ∷ Ok ∷ Wait ∷ []
-  pub marked : full-get (stateAfter (begun a b c 2) opening).marks 1 ≡ Some place
-  pub closes : answersOf (stateAfter (begun a b c 2) opening) closing ≡ Ok ∷ Yes ∷ Yes ∷ Ok ∷ Yes ∷ []
-  pub placed : slice_get (stateAfter (begun a b c 2) (opening ++ closing)).cells place ≡ Some (cell (sector 25) (Some 2) true)
-  pub narrow-run : Run index 3 1 (eventsOf (begun a b c 1) (filling ++ deciding)) (stateAfter (begun a b c 1) (filling ++ deciding))
-  pub narrow : answersOf (begun a b c 1) (filling ++ deciding)
+  pub marked : full_get (state_after (begun a b c 2) opening).marks 1 ≡ Some place
+  pub closes : answers_of (state_after (begun a b c 2) opening) closing ≡ Ok ∷ Yes ∷ Yes ∷ Ok ∷ Yes ∷ []
+  pub placed : slice_get (state_after (begun a b c 2) (opening ++ closing)).cells place ≡ Some (cell (sector 25) (Some 2) true)
+  pub narrow_run : Run index 3 1 (events_of (begun a b c 1) (filling ++ deciding)) (state_after (begun a b c 1) (filling ++ deciding))
+  pub narrow : answers_of (begun a b c 1) (filling ++ deciding)
       ≡ Ok ∷ Ok ∷ Yes ∷ Ok ∷ Wait ∷ Yes ∷ Ok ∷ Wait ∷ Wait ∷ Yes ∷ Ok ∷ Wait ∷ Wait ∷ Wait ∷ No ∷ []
   -- three steps have not answered, and the fourth, which the bound allows, has
-  pub pending : count (endsOf 0) (eventsOf (stateAfter (begun a b c 1) filling) waiting) ≡ 0
-  pub ended : count (endsOf 0) (eventsOf (stateAfter (begun a b c 1) filling) deciding) ≡ 1
-  pub exact : count (steps_of 0) (eventsOf (stateAfter (begun a b c 1) filling) deciding) ≡ steps
+  pub pending : count (ends_of 0) (events_of (state_after (begun a b c 1) filling) waiting) ≡ 0
+  pub ended : count (ends_of 0) (events_of (state_after (begun a b c 1) filling) deciding) ≡ 1
+  pub exact : count (steps_of 0) (events_of (state_after (begun a b c 1) filling) deciding) ≡ steps
   pub bound : suc 0 * (3 / 1) + 1 ≡ steps
 
 -- no promise could be stronger: not the bound by one step, not the width by one cell, not the mark by one place
 pub record Sharp (less : ℕ → ℕ → ℕ → ℕ) (wider : ℕ → ℕ) (next : ℕ → ℕ) : Type 0 where
-  pub bound : Law sector-below full-get true full-acts (λ n w t kind k. less n w k) → ⊥
-  pub width : Windows sector-below full-get true full-acts wider (λ p. p) → ⊥
-  pub place : Windows sector-below full-get true full-acts (λ w. w) next → ⊥
+  pub bound : Law sector_below full_get true full_acts (λ n w t kind k. less n w k) → ⊥
+  pub width : Windows sector_below full_get true full_acts wider (λ p. p) → ⊥
+  pub place : Windows sector_below full_get true full_acts (λ w. w) next → ⊥

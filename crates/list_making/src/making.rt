@@ -5,10 +5,10 @@ ghost use Rattle.marks.specs.Meaning.{Along};
 ghost use Rattle.list_law.specs.Call.{cell, away, Obeys};
 ghost use Rattle.list_law.specs.Runs.{chained};
 ghost use Rattle.list_law.specs.Making.{makes, releases, Makes};
-ghost use Rattle.list_cells.specs.Views.{cell-of, anchor-of};
+ghost use Rattle.list_cells.specs.Views.{cell_of, anchor_of};
 ghost use Rattle.list_window.specs.Rows.{row_of};
-ghost use Rattle.list_making.specs.Chained.{next-number, fresh};
-ghost use Rattle.list_window.specs.Applied.{state-of};
+ghost use Rattle.list_making.specs.Chained.{next_number, fresh};
+ghost use Rattle.list_window.specs.Applied.{state_of};
 
 use basis::answer::Answer;
 use basis::place::Place;
@@ -22,7 +22,7 @@ use marks::scheme::Scheme;
 // The link to the cell after place `at`, of so many cells.
 fn link_after(at: usize, count: usize) -> Option<Place>
     requires { (at < count) × (count ≤ 1008) }
-    ensures { numbered result ≡ next-number at count }
+    ensures { numbered result ≡ next_number at count }
 {
     let next = at + 1;
     if next < count {
@@ -43,7 +43,7 @@ fn clear_rows<K: Key>(rows: &mut [Row<K>])
 
 // A cell becomes free and gets another link; it keeps its key.
 fn freed_cell<K: Key>(given: Cell<K>, link: Option<Place>) -> Cell<K>
-    ensures { cell-of result ≡ cell given.key (numbered link) false }
+    ensures { cell_of result ≡ cell given.key (numbered link) false }
 {
     let key = given.key;
     let listed = false;
@@ -61,7 +61,7 @@ fn given_at<K: Key>(cells: &[Cell<K>], index: usize) -> Cell<K>
 // Every cell is free and linked to the next; the keys stay.
 fn free_cells<K: Key>(cells: &mut [Cell<K>])
     requires { length cells.old ≤ 1008 }
-    ensures { map cell-of cells.new ≡ chained 0 (map cell-of cells.old) }
+    ensures { map cell_of cells.new ≡ chained 0 (map cell_of cells.old) }
 {
     let count = cells.len();
     for at in 0..count {
@@ -99,7 +99,7 @@ pub fn sizes_fit(cells: usize, rows: usize, window: u8) -> bool
 // The anchor of an index that is just made over so many cells.
 fn fresh_anchor(count: usize, window: u8) -> Anchor
     requires { count ≤ 1008 }
-    ensures { anchor-of result ≡ fresh count window }
+    ensures { anchor_of result ≡ fresh count window }
 {
     Anchor {
         count: count as u16,
@@ -117,7 +117,7 @@ pub fn make<K: Key, S: Scheme>(
     scheme: &mut S,
     window: u8,
 ) -> Answer
-    ensures { Makes K.Key.below S.Scheme.table S.Scheme.strict S.Scheme.acts (state-of cells.old rows.old anchor.old scheme.old) window result (state-of cells.new rows.new anchor.new scheme.new) }
+    ensures { Makes K.Key.below S.Scheme.table S.Scheme.strict S.Scheme.acts (state_of cells.old rows.old anchor.old scheme.old) window result (state_of cells.new rows.new anchor.new scheme.new) }
 {
     let count = cells.len();
     if !sizes_fit(count, rows.len(), window) {

@@ -10,15 +10,15 @@ use Rattle.list_window.specs.Rows.{doing_of}
 use Rattle.list_law.specs.Call as call
 
 -- what a request asks
-abbrev pub what-of : {K : Type 0} → declared-request.Request K → What K
-what-of request.Join = join
-what-of request.Leave = leave
-what-of (request.Begin k x) = begin k x
-what-of request.Step = step
-what-of request.Abandon = abandon
+abbrev pub what_of : {K : Type 0} → declared-request.Request K → What K
+what_of request.Join = join
+what_of request.Leave = leave
+what_of (request.Begin k x) = begin k x
+what_of request.Step = step
+what_of request.Abandon = abandon
 
 -- a turn of seat t
-abbrev pub turn-of : {K : Type 0} → ℕ → declared-turn.Turn K → call.Turn K
-turn-of t (variant.Refuses r) = call.refuses r
-turn-of t (variant.Becomes d releases) = call.becomes (doing_of d) (cond releases (release t ∷ []) [])
-turn-of t (variant.Runs k x) = call.runs k x
+abbrev pub turn_of : {K : Type 0} → ℕ → declared-turn.Turn K → call.Turn K
+turn_of t (variant.Refuses r) = call.refuses r
+turn_of t (variant.Becomes d releases) = call.becomes (doing_of d) (cond releases (release t ∷ []) [])
+turn_of t (variant.Runs k x) = call.runs k x

@@ -2,7 +2,7 @@
 ghost use Rattle.std.specs.Prelude.{◌≡◌};
 ghost use Rattle.list_law.specs.Call.{turn};
 ghost use Rattle.list_window.specs.Rows.{doing_of};
-ghost use Rattle.list_window.specs.Turns.{what-of, turn-of};
+ghost use Rattle.list_window.specs.Turns.{what_of, turn_of};
 
 use crate::row::Doing;
 use basis::kind::Kind;
@@ -30,7 +30,7 @@ pub enum Turn<K> {
 
 // Row and call together.
 pub(crate) fn turn_at<K: Key>(seat: Seat, doing: Doing<K>, request: Request<K>) -> Turn<K>
-    ensures { turn-of seat.number result ≡ turn seat.number (doing_of doing) (what-of request) }
+    ensures { turn_of seat.number result ≡ turn seat.number (doing_of doing) (what_of request) }
 {
     match (doing, request) {
         (Doing::Away, Request::Join) => Turn::Becomes {

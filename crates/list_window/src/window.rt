@@ -1,9 +1,9 @@
 // One window: the walk, and what its end decides.
 ghost use Rattle.std.specs.Prelude.{◌≡◌, pred, map};
 ghost use Rattle.marks.specs.Marks.{numbered};
-ghost use Rattle.list_law.specs.Call.{reach, refused, ended, waiting, unlinked, onPresent, takenFrom, onAbsent, decided, walked, window};
-ghost use Rattle.list_cells.specs.Views.{cell-of, memory-of, met_of};
-ghost use Rattle.list_window.specs.Applied.{state-of, Applied};
+ghost use Rattle.list_law.specs.Call.{reach, refused, ended, waiting, unlinked, on_present, taken_from, on_absent, decided, walked, window};
+ghost use Rattle.list_cells.specs.Views.{cell_of, lent_memory, met_of};
+ghost use Rattle.list_window.specs.Applied.{state_of, Applied};
 
 use crate::row::{Doing, Row};
 use crate::seats::put_row;
@@ -27,7 +27,7 @@ fn end_operation<K: Key, S: Scheme>(
     seat: Seat,
     answer: Answer,
 ) -> Answer
-    ensures { Applied S.Scheme.table S.Scheme.strict S.Scheme.acts seat.number (ended seat.number answer (memory-of cells.now anchor.now)) (state-of cells.now rows.old anchor.now scheme.old) result (state-of cells.now rows.new anchor.now scheme.new) }
+    ensures { Applied S.Scheme.table S.Scheme.strict S.Scheme.acts seat.number (ended seat.number answer (lent_memory cells.now anchor.now)) (state_of cells.now rows.old anchor.now scheme.old) result (state_of cells.now rows.new anchor.now scheme.new) }
 {
     scheme.release(seat);
     put_row(rows, seat, Doing::Idle);
@@ -43,7 +43,7 @@ fn wait_at<K: Key, S: Scheme>(
     seat: Seat,
     place: Place,
 ) -> Answer
-    ensures { Applied S.Scheme.table S.Scheme.strict S.Scheme.acts seat.number (waiting seat.number place.number (memory-of cells.now anchor.now)) (state-of cells.now rows.now anchor.now scheme.old) result (state-of cells.now rows.now anchor.now scheme.new) }
+    ensures { Applied S.Scheme.table S.Scheme.strict S.Scheme.acts seat.number (waiting seat.number place.number (lent_memory cells.now anchor.now)) (state_of cells.now rows.now anchor.now scheme.old) result (state_of cells.now rows.now anchor.now scheme.new) }
 {
     scheme.release(seat);
     scheme.reserve(seat, place);
@@ -61,7 +61,7 @@ fn remove_at<K: Key, S: Scheme>(
     place: Place,
     link: Option<Place>,
 ) -> Answer
-    ensures { Applied S.Scheme.table S.Scheme.strict S.Scheme.acts seat.number (unlinked seat.number (numbered lead) place.number (numbered link) (memory-of cells.old anchor.old)) (state-of cells.old rows.old anchor.old scheme.old) result (state-of cells.new rows.new anchor.new scheme.new) }
+    ensures { Applied S.Scheme.table S.Scheme.strict S.Scheme.acts seat.number (unlinked seat.number (numbered lead) place.number (numbered link) (lent_memory cells.old anchor.old)) (state_of cells.old rows.old anchor.old scheme.old) result (state_of cells.new rows.new anchor.new scheme.new) }
 {
     unlink(cells, anchor, lead, place, link);
     scheme.revoke(place);
@@ -81,7 +81,7 @@ fn insert_at<K: Key, S: Scheme>(
     lead: Option<Place>,
     link: Option<Place>,
 ) -> Answer
-    ensures { Applied S.Scheme.table S.Scheme.strict S.Scheme.acts seat.number (takenFrom target seat.number (numbered lead) (numbered link) (memory-of cells.old anchor.old) (numbered anchor.old.free)) (state-of cells.old rows.old anchor.old scheme.old) result (state-of cells.new rows.new anchor.new scheme.new) }
+    ensures { Applied S.Scheme.table S.Scheme.strict S.Scheme.acts seat.number (taken_from target seat.number (numbered lead) (numbered link) (lent_memory cells.old anchor.old) (numbered anchor.old.free)) (state_of cells.old rows.old anchor.old scheme.old) result (state_of cells.new rows.new anchor.new scheme.new) }
 {
     let Some(place) = anchor.free else {
         return end_operation(cells, rows, anchor, scheme, seat, Answer::Full);
@@ -108,7 +108,7 @@ fn on_present<K: Key, S: Scheme>(
     place: Place,
     link: Option<Place>,
 ) -> Answer
-    ensures { Applied S.Scheme.table S.Scheme.strict S.Scheme.acts seat.number (onPresent kind seat.number (numbered lead) place.number (numbered link) (memory-of cells.old anchor.old)) (state-of cells.old rows.old anchor.old scheme.old) result (state-of cells.new rows.new anchor.new scheme.new) }
+    ensures { Applied S.Scheme.table S.Scheme.strict S.Scheme.acts seat.number (on_present kind seat.number (numbered lead) place.number (numbered link) (lent_memory cells.old anchor.old)) (state_of cells.old rows.old anchor.old scheme.old) result (state_of cells.new rows.new anchor.new scheme.new) }
 {
     match kind {
         Kind::Lookup => end_operation(cells, rows, anchor, scheme, seat, Answer::Yes),
@@ -129,7 +129,7 @@ fn on_absent<K: Key, S: Scheme>(
     lead: Option<Place>,
     link: Option<Place>,
 ) -> Answer
-    ensures { Applied S.Scheme.table S.Scheme.strict S.Scheme.acts seat.number (onAbsent kind target seat.number (numbered lead) (numbered link) (memory-of cells.old anchor.old)) (state-of cells.old rows.old anchor.old scheme.old) result (state-of cells.new rows.new anchor.new scheme.new) }
+    ensures { Applied S.Scheme.table S.Scheme.strict S.Scheme.acts seat.number (on_absent kind target seat.number (numbered lead) (numbered link) (lent_memory cells.old anchor.old)) (state_of cells.old rows.old anchor.old scheme.old) result (state_of cells.new rows.new anchor.new scheme.new) }
 {
     match kind {
         Kind::Lookup => end_operation(cells, rows, anchor, scheme, seat, Answer::No),
@@ -149,7 +149,7 @@ fn decide<K: Key, S: Scheme>(
     target: K,
     met: Met,
 ) -> Answer
-    ensures { Applied S.Scheme.table S.Scheme.strict S.Scheme.acts seat.number (decided kind target seat.number (memory-of cells.old anchor.old) (met_of met)) (state-of cells.old rows.old anchor.old scheme.old) result (state-of cells.new rows.new anchor.new scheme.new) }
+    ensures { Applied S.Scheme.table S.Scheme.strict S.Scheme.acts seat.number (decided kind target seat.number (lent_memory cells.old anchor.old) (met_of met)) (state_of cells.old rows.old anchor.old scheme.old) result (state_of cells.new rows.new anchor.new scheme.new) }
 {
     match met {
         Met::Bad => Answer::Refused(Refusal::BadLink),
@@ -178,7 +178,7 @@ fn walk_behind<K: Key>(
     target: K,
     mark: Option<Place>,
 ) -> Met
-    ensures { met_of result ≡ walked K.Key.below (map cell-of cells.now) (numbered anchor.now.head) target (pred (reach seat.number anchor.now.window (numbered mark))) (numbered mark) }
+    ensures { met_of result ≡ walked K.Key.below (map cell_of cells.now) (numbered anchor.now.head) target (pred (reach seat.number anchor.now.window (numbered mark))) (numbered mark) }
 {
     let room = width(seat, anchor.window, mark).saturating_sub(1);
     walk_from(cells, anchor.head, target, room, mark)
@@ -192,7 +192,7 @@ fn walk_of<K: Key, S: Scheme>(
     seat: Seat,
     target: K,
 ) -> Met
-    ensures { met_of result ≡ walked K.Key.below (map cell-of cells.now) (numbered anchor.now.head) target (pred (reach seat.number anchor.now.window (S.Scheme.table scheme.now seat.number))) (S.Scheme.table scheme.now seat.number) }
+    ensures { met_of result ≡ walked K.Key.below (map cell_of cells.now) (numbered anchor.now.head) target (pred (reach seat.number anchor.now.window (S.Scheme.table scheme.now seat.number))) (S.Scheme.table scheme.now seat.number) }
 {
     walk_behind(cells, anchor, seat, target, scheme.get(seat))
 }
@@ -207,7 +207,7 @@ pub fn run_window<K: Key, S: Scheme>(
     kind: Kind,
     target: K,
 ) -> Answer
-    ensures { Applied S.Scheme.table S.Scheme.strict S.Scheme.acts seat.number (window K.Key.below (memory-of cells.old anchor.old) seat.number anchor.old.window (S.Scheme.table scheme.old seat.number) kind target) (state-of cells.old rows.old anchor.old scheme.old) result (state-of cells.new rows.new anchor.new scheme.new) }
+    ensures { Applied S.Scheme.table S.Scheme.strict S.Scheme.acts seat.number (window K.Key.below (lent_memory cells.old anchor.old) seat.number anchor.old.window (S.Scheme.table scheme.old seat.number) kind target) (state_of cells.old rows.old anchor.old scheme.old) result (state_of cells.new rows.new anchor.new scheme.new) }
 {
     let met = walk_of(cells, anchor, scheme, seat, target);
     decide(cells, rows, anchor, scheme, seat, kind, target, met)

@@ -5,15 +5,15 @@ use Rattle.std.proofs.lemmas.Bool.{eq-eqb, ne_eqb, cases_eq}
 use Rattle.marks.specs.declared.owner.Owner.{Owner}
 use Rattle.marks.specs.Meaning.{Order, Means, Seated, Kept}
 use Rattle.marks.specs.Meaning.Order.{release, reserve, revoke}
-use Rattle.marks.specs.Marks.{numbered, seat-number, names}
+use Rattle.marks.specs.Marks.{numbered, seat_number, names}
 use Rattle.marks.specs.Spread.{slot}
-use Rattle.marks.specs.Owner.{Owned, Sixteens, owner-state, owner-act, owner-get, if-owned}
-use Rattle.marks.proofs.Slots.{slot-below}
+use Rattle.marks.specs.Owner.{Owned, Sixteens, owner_state, owner_act, owner_get, if_owned}
+use Rattle.marks.proofs.Slots.{slot_below}
 
 -- what is answered is the mark
-answers-mark : (owners : List (Option ℕ)) (t p : ℕ) (m : Option ℕ) → if-owned owners t m ≡ Some p → m ≡ Some p
-answers-mark owners t p None e = e
-answers-mark owners t p (Some q) e = kept (names t (get_or owners (slot q) None)) e
+answers_mark : (owners : List (Option ℕ)) (t p : ℕ) (m : Option ℕ) → if_owned owners t m ≡ Some p → m ≡ Some p
+answers_mark owners t p None e = e
+answers_mark owners t p (Some q) e = kept (names t (get_or owners (slot q) None)) e
   where
     kept : (b : Bool) → cond b (Some q) None ≡ Some p → Some q ≡ Some p
     kept true e = e
@@ -21,7 +21,7 @@ answers-mark owners t p (Some q) e = kept (names t (get_or owners (slot q) None)
 
 module _ (s : Owned) (marks16 : length s.marks ≡ 16) (owners16 : length s.owners ≡ 16) where
   -- a slot is given to somebody else: a mark is answered as before, or no more
-  shifted : (k : ℕ) → k < 16 → (o : Option ℕ) (u : ℕ) → names u o ≡ false → (m : Option ℕ) → Kept false (if-owned s.owners u m) (if-owned (set s.owners k o) u m)
+  shifted : (k : ℕ) → k < 16 → (o : Option ℕ) (u : ℕ) → names u o ≡ false → (m : Option ℕ) → Kept false (if_owned s.owners u m) (if_owned (set s.owners k o) u m)
   shifted k h o u no_more None = inl refl
   shifted k h o u no_more (Some q) =
       ⊎_elim
@@ -29,30 +29,30 @@ module _ (s : Owned) (marks16 : length s.marks ≡ 16) (owners16 : length s.owne
       (λ apart. inl (ap (λ x. cond (names u x) (Some q) None) (get_or-set_other s.owners k (slot q) o None apart)))
       (cases_eq (slot q) k)
 
-  meant : (o : Order) → Seated o → Means false o (owner-get s) (owner-get (owner-act o s))
+  meant : (o : Order) → Seated o → Means false o (owner_get s) (owner_get (owner_act o s))
   meant (release t) h = record {
-    own = ap (if-owned s.owners t) (get_or-set_same s.marks t None None (omega arith));
-    others = λ u l ne. ap (if-owned s.owners u) (get_or-set_other s.marks t u None None ne);
+    own = ap (if_owned s.owners t) (get_or-set_same s.marks t None None (omega arith));
+    others = λ u l ne. ap (if_owned s.owners u) (get_or-set_other s.marks t u None None ne);
   }
   meant (reserve t p) h = record {
     own =
-        ap (if-owned (set s.owners (slot p) (Some t)) t) (get_or-set_same s.marks t (Some p) None (omega arith))
-        ∙ ap (λ x. cond (names t x) (Some p) None) (get_or-set_same s.owners (slot p) (Some t) None (omega (arith, slot-below p)))
+        ap (if_owned (set s.owners (slot p) (Some t)) t) (get_or-set_same s.marks t (Some p) None (omega arith))
+        ∙ ap (λ x. cond (names t x) (Some p) None) (get_or-set_same s.owners (slot p) (Some t) None (omega (arith, slot_below p)))
         ∙ ap (λ b. cond b (Some p) None) (eq-eqb t t refl);
     others = λ u l ne.
-        let P : Option ℕ → Type 0 = λ m. Kept false (owner-get s u) (if-owned (set s.owners (slot p) (Some t)) u m) in
+        let P : Option ℕ → Type 0 = λ m. Kept false (owner_get s u) (if_owned (set s.owners (slot p) (Some t)) u m) in
         subst P (sym (get_or-set_other s.marks t u (Some p) None ne))
-        (shifted (slot p) (slot-below p) (Some t) u (ne_eqb t u (λ e. ne (sym e))) (get_or s.marks u None));
+        (shifted (slot p) (slot_below p) (Some t) u (ne_eqb t u (λ e. ne (sym e))) (get_or s.marks u None));
   }
   meant (revoke p) h = record {
     struck = λ u l e.
-        ap (if-owned (set s.owners (slot p) None) u) (answers-mark s.owners u p (get_or s.marks u None) e)
-        ∙ ap (λ x. cond (names u x) (Some p) None) (get_or-set_same s.owners (slot p) None None (omega (arith, slot-below p)));
-    others = λ u l ne. shifted (slot p) (slot-below p) None u refl (get_or s.marks u None);
+        ap (if_owned (set s.owners (slot p) None) u) (answers_mark s.owners u p (get_or s.marks u None) e)
+        ∙ ap (λ x. cond (names u x) (Some p) None) (get_or-set_same s.owners (slot p) None None (omega (arith, slot_below p)));
+    others = λ u l ne. shifted (slot p) (slot_below p) None u refl (get_or s.marks u None);
   }
 
 -- where the state is what the order makes of it, the order is carried out as it means
-pub owner-means : (s after : Owner) → Sixteens s → (o : Order) → Seated o → owner-state after ≡ owner-act o (owner-state s) → Means false o (owner-get (owner-state s)) (owner-get (owner-state after))
-owner-means s after sixteen o h e =
-    subst (λ x. Means false o (owner-get (owner-state s)) (owner-get x)) (sym e)
-    (meant (owner-state s) (length-map s.marks numbered ∙ sixteen.0) (length-map s.owners seat-number ∙ sixteen.1) o h)
+pub owner_means : (s after : Owner) → Sixteens s → (o : Order) → Seated o → owner_state after ≡ owner_act o (owner_state s) → Means false o (owner_get (owner_state s)) (owner_get (owner_state after))
+owner_means s after sixteen o h e =
+    subst (λ x. Means false o (owner_get (owner_state s)) (owner_get x)) (sym e)
+    (meant (owner_state s) (length-map s.marks numbered ∙ sixteen.0) (length-map s.owners seat_number ∙ sixteen.1) o h)

@@ -10,8 +10,8 @@ abbrev small : List ℕ → Bool
 small [] = true
 small (x ∷ xs) = ltb x 16 && small xs
 
-pub slot-below : (p : ℕ) → slot p < 16
+pub slot_below : (p : ℕ) → slot p < 16
 unfolding slot
-slot-below p =
+slot_below p =
     All-get_or (λ e. e < 16) entries (p % 16) 0 (mod_below p 16 (lit< tt))
     ((Decides-by_and (λ x. ltb x 16) (λ x. x < 16) small (λ x. Decides-ltb x 16) refl (λ _ _. refl) entries).0 refl)

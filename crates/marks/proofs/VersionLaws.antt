@@ -9,21 +9,21 @@ use Rattle.marks.specs.Meaning.{Order, Means, Seated}
 use Rattle.marks.specs.Meaning.Order.{release, reserve, revoke}
 use Rattle.marks.specs.Marks.{cleared}
 use Rattle.marks.specs.Spread.{slot}
-use Rattle.marks.specs.Version.{Seen, seen, Versioned, versioned, Sixteens, seen_of, version-state, counter-of, kept_in, raised, restarted, version-act, version-get, if-current, Sound}
-use Rattle.marks.proofs.Cleared.{cleared_at, cleared-cases, map-cleared, none-is-not-some, set_cases, set-mapped}
-use Rattle.marks.proofs.Slots.{slot-below}
+use Rattle.marks.specs.Version.{Seen, seen, Versioned, versioned, Sixteens, seen_of, version_state, counter_of, kept_in, raised, restarted, version_act, version_get, if_current, Sound}
+use Rattle.marks.proofs.Cleared.{cleared_at, cleared_cases, map_cleared, none_is_not_some, set_cases, set_mapped}
+use Rattle.marks.proofs.Slots.{slot_below}
 
 -- what is answered is a mark on that place, so it is kept in the place's slot
-answers-mark : (counters : List ℕ) (p : ℕ) (m : Option Seen) → if-current counters m ≡ Some p → kept_in (slot p) m ≡ true
-answers-mark counters p None e = none-is-not-some e
-answers-mark counters p (Some m) e = kept (eqb (counter-of counters m.place) m.counter) e
+answers_mark : (counters : List ℕ) (p : ℕ) (m : Option Seen) → if_current counters m ≡ Some p → kept_in (slot p) m ≡ true
+answers_mark counters p None e = none_is_not_some e
+answers_mark counters p (Some m) e = kept (eqb (counter_of counters m.place) m.counter) e
   where
     kept : (b : Bool) → cond b (Some m.place) None ≡ Some p → eqb (slot m.place) (slot p) ≡ true
     kept true e = let same : m.place ≡ p = cc in eq-eqb (slot m.place) (slot p) (ap slot same)
-    kept false e = none-is-not-some e
+    kept false e = none_is_not_some e
 
 -- another slot's counter says nothing of a mark
-elsewhere : (counters : List ℕ) (k v : ℕ) (m : Option Seen) → kept_in k m ≡ false → if-current (set counters k v) m ≡ if-current counters m
+elsewhere : (counters : List ℕ) (k v : ℕ) (m : Option Seen) → kept_in k m ≡ false → if_current (set counters k v) m ≡ if_current counters m
 elsewhere counters k v None apart = refl
 elsewhere counters k v (Some m) apart =
     ap (λ n. cond (eqb n m.counter) (Some m.place) None)
@@ -31,110 +31,110 @@ elsewhere counters k v (Some m) apart =
 
 module _ (s : Versioned) (marks16 : length s.marks ≡ 16) (counters16 : length s.counters ≡ 16) (sound : Sound s) where
   -- a counter that has gone up is not one that a mark keeps
-  outdated : (k : ℕ) → k < 16 → (m : Option Seen) → ((p c : ℕ) → m ≡ Some (seen p c) → c ≤ counter-of s.counters p) → kept_in k m ≡ true → if-current (set s.counters k (get_or s.counters k 0 + 1)) m ≡ None
+  outdated : (k : ℕ) → k < 16 → (m : Option Seen) → ((p c : ℕ) → m ≡ Some (seen p c) → c ≤ counter_of s.counters p) → kept_in k m ≡ true → if_current (set s.counters k (get_or s.counters k 0 + 1)) m ≡ None
   outdated k h None reached here = refl
   outdated k h (Some m) reached here =
       let c : ℕ = get_or s.counters k 0 in
       let same : slot m.place ≡ k = eqb-true (slot m.place) k here in
-      let risen : counter-of (set s.counters k (c + 1)) m.place ≡ c + 1 = ap (λ j. get_or (set s.counters k (c + 1)) j 0) same ∙ get_or-set_same s.counters k (c + 1) 0 (omega arith) in
-      let old : m.counter ≤ counter-of s.counters m.place = reached m.place m.counter refl in
-      let before : counter-of s.counters m.place ≡ c = ap (λ j. get_or s.counters j 0) same in
-      ap (λ b. cond b (Some m.place) None) (ne_eqb (counter-of (set s.counters k (c + 1)) m.place) m.counter (λ e. omega arith))
+      let risen : counter_of (set s.counters k (c + 1)) m.place ≡ c + 1 = ap (λ j. get_or (set s.counters k (c + 1)) j 0) same ∙ get_or-set_same s.counters k (c + 1) 0 (omega arith) in
+      let old : m.counter ≤ counter_of s.counters m.place = reached m.place m.counter refl in
+      let before : counter_of s.counters m.place ≡ c = ap (λ j. get_or s.counters j 0) same in
+      ap (λ b. cond b (Some m.place) None) (ne_eqb (counter_of (set s.counters k (c + 1)) m.place) m.counter (λ e. omega arith))
 
   module _ (k u : ℕ) (below : k < 16) (seated : u < 16) where
     -- every mark kept in the slot is gone, whether the counter goes up or back to 0
-    gone : (b : Bool) → kept_in k (get_or s.marks u None) ≡ true → version-get (cond b (restarted s k) (raised s k)) u ≡ None
-    gone true here = ap (if-current (set s.counters k 0)) (cleared_at (kept_in k) s.marks u (omega arith) ∙ ap (λ b. cond b None (get_or s.marks u None)) here)
+    gone : (b : Bool) → kept_in k (get_or s.marks u None) ≡ true → version_get (cond b (restarted s k) (raised s k)) u ≡ None
+    gone true here = ap (if_current (set s.counters k 0)) (cleared_at (kept_in k) s.marks u (omega arith) ∙ ap (λ b. cond b None (get_or s.marks u None)) here)
     gone false here = outdated k below (get_or s.marks u None) (sound u) here
 
     -- every other mark is as it was
-    stays : (b : Bool) → kept_in k (get_or s.marks u None) ≡ false → version-get (cond b (restarted s k) (raised s k)) u ≡ version-get s u
+    stays : (b : Bool) → kept_in k (get_or s.marks u None) ≡ false → version_get (cond b (restarted s k) (raised s k)) u ≡ version_get s u
     stays true apart =
-        ap (if-current (set s.counters k 0)) (cleared_at (kept_in k) s.marks u (omega arith) ∙ ap (λ b. cond b None (get_or s.marks u None)) apart)
+        ap (if_current (set s.counters k 0)) (cleared_at (kept_in k) s.marks u (omega arith) ∙ ap (λ b. cond b None (get_or s.marks u None)) apart)
         ∙ elsewhere s.counters k 0 (get_or s.marks u None) apart
     stays false apart = elsewhere s.counters k (get_or s.counters k 0 + 1) (get_or s.marks u None) apart
 
-  meant : (o : Order) → Seated o → Means false o (version-get s) (version-get (version-act o s))
+  meant : (o : Order) → Seated o → Means false o (version_get s) (version_get (version_act o s))
   meant (release t) h = record {
-    own = ap (if-current s.counters) (get_or-set_same s.marks t None None (omega arith));
-    others = λ u l ne. ap (if-current s.counters) (get_or-set_other s.marks t u None None ne);
+    own = ap (if_current s.counters) (get_or-set_same s.marks t None None (omega arith));
+    others = λ u l ne. ap (if_current s.counters) (get_or-set_other s.marks t u None None ne);
   }
   meant (reserve t p) h =
-      let m : Option Seen = Some (seen p (counter-of s.counters p)) in
+      let m : Option Seen = Some (seen p (counter_of s.counters p)) in
       record {
-        own = ap (if-current s.counters) (get_or-set_same s.marks t m None (omega arith)) ∙ ap (λ b. cond b (Some p) None) (eq-eqb (counter-of s.counters p) (counter-of s.counters p) refl);
-        others = λ u l ne. inl (ap (if-current s.counters) (get_or-set_other s.marks t u m None ne));
+        own = ap (if_current s.counters) (get_or-set_same s.marks t m None (omega arith)) ∙ ap (λ b. cond b (Some p) None) (eq-eqb (counter_of s.counters p) (counter_of s.counters p) refl);
+        others = λ u l ne. inl (ap (if_current s.counters) (get_or-set_other s.marks t u m None ne));
       }
   meant (revoke p) h =
-      let wraps : Bool = eqb (counter-of s.counters p) 4294967295 in
+      let wraps : Bool = eqb (counter_of s.counters p) 4294967295 in
       record {
-        struck = λ u l e. gone (slot p) u (slot-below p) l wraps (answers-mark s.counters p (get_or s.marks u None) e);
+        struck = λ u l e. gone (slot p) u (slot_below p) l wraps (answers_mark s.counters p (get_or s.marks u None) e);
         others = λ u l ne.
             ⊎_elim
-            (λ here. inr (refl, gone (slot p) u (slot-below p) l wraps here))
-            (λ apart. inl (stays (slot p) u (slot-below p) l wraps apart))
+            (λ here. inr (refl, gone (slot p) u (slot_below p) l wraps here))
+            (λ apart. inl (stays (slot p) u (slot_below p) l wraps apart))
             (cases_Bool (kept_in (slot p) (get_or s.marks u None)));
       }
 
   -- no mark that is left has a counter of more than its slot's
-  restarted-sound : (k : ℕ) → Sound (restarted s k)
-  restarted-sound k u p c e =
-      let left = cleared-cases (kept_in k) s.marks u (seen p c) e in
-      let same : counter-of (set s.counters k 0) p ≡ counter-of s.counters p = get_or-set_other s.counters k (slot p) 0 0 (eqb-false (slot p) k left.1) in
+  restarted_sound : (k : ℕ) → Sound (restarted s k)
+  restarted_sound k u p c e =
+      let left = cleared_cases (kept_in k) s.marks u (seen p c) e in
+      let same : counter_of (set s.counters k 0) p ≡ counter_of s.counters p = get_or-set_other s.counters k (slot p) 0 0 (eqb-false (slot p) k left.1) in
       omega (arith, sound u p c left.0)
 
   -- no counter is less than it was
-  grown : (k : ℕ) → k < 16 → (p : ℕ) → counter-of s.counters p ≤ counter-of (raised s k).counters p
+  grown : (k : ℕ) → k < 16 → (p : ℕ) → counter_of s.counters p ≤ counter_of (raised s k).counters p
   grown k h p =
       let c : ℕ = get_or s.counters k 0 in
       ⊎_elim
       (λ same.
-      let before : counter-of s.counters p ≡ c = ap (λ j. get_or s.counters j 0) same in
-      let after : counter-of (set s.counters k (c + 1)) p ≡ c + 1 = ap (λ j. get_or (set s.counters k (c + 1)) j 0) same ∙ get_or-set_same s.counters k (c + 1) 0 (omega arith) in
+      let before : counter_of s.counters p ≡ c = ap (λ j. get_or s.counters j 0) same in
+      let after : counter_of (set s.counters k (c + 1)) p ≡ c + 1 = ap (λ j. get_or (set s.counters k (c + 1)) j 0) same ∙ get_or-set_same s.counters k (c + 1) 0 (omega arith) in
       omega arith)
       (λ apart. omega (arith, get_or-set_other s.counters k (slot p) (c + 1) 0 apart))
       (cases_eq (slot p) k)
 
-  kept-sound : (o : Order) → Seated o → Sound (version-act o s)
-  kept-sound (release t) h u p c e = ⊎_elim none-is-not-some (sound u p c) (set_cases s.marks t None u (seen p c) e)
-  kept-sound (reserve t q) h u p c e =
+  kept_sound : (o : Order) → Seated o → Sound (version_act o s)
+  kept_sound (release t) h u p c e = ⊎_elim none_is_not_some (sound u p c) (set_cases s.marks t None u (seen p c) e)
+  kept_sound (reserve t q) h u p c e =
       ⊎_elim
       (λ own.
-      let same : seen q (counter-of s.counters q) ≡ seen p c = cc in
+      let same : seen q (counter_of s.counters q) ≡ seen p c = cc in
       let place : q ≡ p = ap (λ (m : Seen). m.place) same in
-      omega (arith, ap (λ (m : Seen). m.counter) same, ap (counter-of s.counters) place))
+      omega (arith, ap (λ (m : Seen). m.counter) same, ap (counter_of s.counters) place))
       (sound u p c)
-      (set_cases s.marks t (Some (seen q (counter-of s.counters q))) u (seen p c) e)
-  kept-sound (revoke q) h u p c e = either (eqb (counter-of s.counters q) 4294967295) u p c e
+      (set_cases s.marks t (Some (seen q (counter_of s.counters q))) u (seen p c) e)
+  kept_sound (revoke q) h u p c e = either (eqb (counter_of s.counters q) 4294967295) u p c e
     where
       either : (b : Bool) → Sound (cond b (restarted s (slot q)) (raised s (slot q)))
-      either true u p c e = restarted-sound (slot q) u p c e
-      either false u p c e = omega (arith, sound u p c e, grown (slot q) (slot-below q) p)
+      either true u p c e = restarted_sound (slot q) u p c e
+      either false u p c e = omega (arith, sound u p c e, grown (slot q) (slot_below q) p)
 
-module _ (s after : Stamps) (sixteen : Sixteens s) (sound : Sound (version-state s)) (o : Order) (h : Seated o) (acted : version-state after ≡ version-act o (version-state s)) where
+module _ (s after : Stamps) (sixteen : Sixteens s) (sound : Sound (version_state s)) (o : Order) (h : Seated o) (acted : version_state after ≡ version_act o (version_state s)) where
   marks16 : length (map (option_map seen_of) s.marks) ≡ 16
   marks16 = length-map s.marks (option_map seen_of) ∙ sixteen.0
 
   -- where the state is what the order makes of it, the order is carried out as it means
-  pub version-means : Means false o (version-get (version-state s)) (version-get (version-state after))
-  version-means = subst (λ x. Means false o (version-get (version-state s)) (version-get x)) (sym acted) (meant (version-state s) marks16 sixteen.1 sound o h)
+  pub version_means : Means false o (version_get (version_state s)) (version_get (version_state after))
+  version_means = subst (λ x. Means false o (version_get (version_state s)) (version_get x)) (sym acted) (meant (version_state s) marks16 sixteen.1 sound o h)
 
-  pub version-sound : Sound (version-state after)
-  version-sound = subst Sound (sym acted) (kept-sound (version-state s) marks16 sixteen.1 sound o h)
+  pub version_sound : Sound (version_state after)
+  version_sound = subst Sound (sym acted) (kept_sound (version_state s) marks16 sixteen.1 sound o h)
 
 -- a mark is written: the state, with what is written under its name
-pub put-acted : (s after : Stamps) (t : ℕ) (m : Option Stamped) → after.marks ≡ set s.marks t m → after.counters ≡ s.counters → version-state after ≡ versioned (set (map (option_map seen_of) s.marks) t (option_map seen_of m)) s.counters
-put-acted s after t m marks counters = ap₂ versioned (set-mapped seen_of s.marks after.marks t m marks) counters
+pub put_acted : (s after : Stamps) (t : ℕ) (m : Option Stamped) → after.marks ≡ set s.marks t m → after.counters ≡ s.counters → version_state after ≡ versioned (set (map (option_map seen_of) s.marks) t (option_map seen_of m)) s.counters
+put_acted s after t m marks counters = ap₂ versioned (set_mapped seen_of s.marks after.marks t m marks) counters
 
 -- the counter of the slot j of place p is changed
 module _ (s after : Stamps) (p j : ℕ) (js : j ≡ slot p) where
-  revoked : (b : Bool) → eqb (get_or s.counters j 0) 4294967295 ≡ b → cond b (restarted (version-state s) j) (raised (version-state s) j) ≡ version-act (revoke p) (version-state s)
-  revoked b test = sym (ap (λ x. cond x (restarted (version-state s) j) (raised (version-state s) j)) test) ∙ ap (λ k. cond (eqb (get_or s.counters k 0) 4294967295) (restarted (version-state s) k) (raised (version-state s) k)) js
+  revoked : (b : Bool) → eqb (get_or s.counters j 0) 4294967295 ≡ b → cond b (restarted (version_state s) j) (raised (version_state s) j) ≡ version_act (revoke p) (version_state s)
+  revoked b test = sym (ap (λ x. cond x (restarted (version_state s) j) (raised (version_state s) j)) test) ∙ ap (λ k. cond (eqb (get_or s.counters k 0) 4294967295) (restarted (version_state s) k) (raised (version_state s) k)) js
 
-  pub restart-acted : get_or s.counters j 0 ≡ 4294967295 → after.marks ≡ cleared (λ m. kept_in j (option_map seen_of m)) s.marks → after.counters ≡ set s.counters j 0 → version-state after ≡ version-act (revoke p) (version-state s)
-  restart-acted last marks counters =
-      ap₂ versioned (ap (map (option_map seen_of)) marks ∙ map-cleared seen_of (kept_in j) s.marks) counters
+  pub restart_acted : get_or s.counters j 0 ≡ 4294967295 → after.marks ≡ cleared (λ m. kept_in j (option_map seen_of m)) s.marks → after.counters ≡ set s.counters j 0 → version_state after ≡ version_act (revoke p) (version_state s)
+  restart_acted last marks counters =
+      ap₂ versioned (ap (map (option_map seen_of)) marks ∙ map_cleared seen_of (kept_in j) s.marks) counters
       ∙ revoked true (eq-eqb (get_or s.counters j 0) 4294967295 last)
 
-  pub raise-acted : (get_or s.counters j 0 ≡ 4294967295 → ⊥) → after.marks ≡ s.marks → after.counters ≡ set s.counters j (get_or s.counters j 0 + 1) → version-state after ≡ version-act (revoke p) (version-state s)
-  raise-acted more marks counters = ap₂ versioned (ap (map (option_map seen_of)) marks) counters ∙ revoked false (ne_eqb (get_or s.counters j 0) 4294967295 more)
+  pub raise_acted : (get_or s.counters j 0 ≡ 4294967295 → ⊥) → after.marks ≡ s.marks → after.counters ≡ set s.counters j (get_or s.counters j 0 + 1) → version_state after ≡ version_act (revoke p) (version_state s)
+  raise_acted more marks counters = ap₂ versioned (ap (map (option_map seen_of)) marks) counters ∙ revoked false (ne_eqb (get_or s.counters j 0) 4294967295 more)

@@ -14,8 +14,8 @@ abbrev pub Unmarked : Table → Type 0
 Unmarked table = (u : ℕ) → u < 16 → table u ≡ None
 
 -- an owner, by the number of its seat
-abbrev pub seat-number : Option Seat → Option ℕ
-seat-number o = option_map (λ (t : Seat). t.number) o
+abbrev pub seat_number : Option Seat → Option ℕ
+seat_number o = option_map (λ (t : Seat). t.number) o
 
 -- whether an entry names that number: a mark that place, an owner that seat
 abbrev pub names : ℕ → Option ℕ → Bool

@@ -36,24 +36,24 @@ stamped p c = record { place = p; counter = c }
 abbrev pub Sixteens : Stamps → Type 0
 Sixteens s = (length s.marks ≡ 16) × (length s.counters ≡ 16)
 
-abbrev pub version-state : Stamps → Versioned
-version-state s = versioned (map (option_map seen_of) s.marks) s.counters
+abbrev pub version_state : Stamps → Versioned
+version_state s = versioned (map (option_map seen_of) s.marks) s.counters
 
 -- no seat has a mark, and all counters are n
-abbrev pub version-new : ℕ → Versioned
-version-new n = versioned (replicate 16 None) (replicate 16 n)
+abbrev pub version_new : ℕ → Versioned
+version_new n = versioned (replicate 16 None) (replicate 16 n)
 
 -- the counter of the slot of place p
-abbrev pub counter-of : List ℕ → ℕ → ℕ
-counter-of counters p = slice_index counters (slot p)
+abbrev pub counter_of : List ℕ → ℕ → ℕ
+counter_of counters p = slice_index counters (slot p)
 
 -- seat t marks place p, with the counter of its slot
-abbrev pub version-reserve : Versioned → ℕ → ℕ → Versioned
-version-reserve s t p = versioned (slice_set s.marks t (Some (seen p (counter-of s.counters p)))) s.counters
+abbrev pub version_reserve : Versioned → ℕ → ℕ → Versioned
+version_reserve s t p = versioned (slice_set s.marks t (Some (seen p (counter_of s.counters p)))) s.counters
 
 -- seat t has no mark
-abbrev pub version-release : Versioned → ℕ → Versioned
-version-release s t = versioned (slice_set s.marks t None) s.counters
+abbrev pub version_release : Versioned → ℕ → Versioned
+version_release s t = versioned (slice_set s.marks t None) s.counters
 
 -- whether a mark is kept in slot k
 abbrev pub kept_in : ℕ → Option Seen → Bool
@@ -69,22 +69,22 @@ abbrev pub restarted : Versioned → ℕ → Versioned
 restarted s k = versioned (cleared (kept_in k) s.marks) (slice_set s.counters k 0)
 
 -- the counter of the slot of place p goes one up; the last of 32 bits starts again
-abbrev pub version-revoke : Versioned → ℕ → Versioned
-version-revoke s p = cond (counter-of s.counters p == 4294967295) (restarted s (slot p)) (raised s (slot p))
+abbrev pub version_revoke : Versioned → ℕ → Versioned
+version_revoke s p = cond (counter_of s.counters p == 4294967295) (restarted s (slot p)) (raised s (slot p))
 
-abbrev pub version-act : Order → Versioned → Versioned
-version-act (release t) s = version-release s t
-version-act (reserve t p) s = version-reserve s t p
-version-act (revoke p) s = version-revoke s p
+abbrev pub version_act : Order → Versioned → Versioned
+version_act (release t) s = version_release s t
+version_act (reserve t p) s = version_reserve s t p
+version_act (revoke p) s = version_revoke s p
 
 -- the mark, if there is one and the counter of its slot is still the one it keeps
-abbrev pub if-current : List ℕ → Option Seen → Option ℕ
-if-current counters None = None
-if-current counters (Some m) = cond (counter-of counters m.place == m.counter) (Some m.place) None
+abbrev pub if_current : List ℕ → Option Seen → Option ℕ
+if_current counters None = None
+if_current counters (Some m) = cond (counter_of counters m.place == m.counter) (Some m.place) None
 
-abbrev pub version-get : Versioned → Table
-version-get s t = if-current s.counters (slice_index_or s.marks t None)
+abbrev pub version_get : Versioned → Table
+version_get s t = if_current s.counters (slice_index_or s.marks t None)
 
 -- no mark keeps a counter that its slot has yet to reach, so no counter that goes up brings a mark back
 abbrev pub Sound : Versioned → Type 0
-Sound s = (u p c : ℕ) → slice_index_or s.marks u None ≡ Some (seen p c) → c ≤ counter-of s.counters p
+Sound s = (u p c : ℕ) → slice_index_or s.marks u None ≡ Some (seen p c) → c ≤ counter_of s.counters p

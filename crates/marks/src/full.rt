@@ -1,7 +1,7 @@
 // The full scheme: a mark for each seat, and a revoke that looks at all of them. It is strict.
 ghost use Rattle.std.specs.Prelude.{◌≡◌, true, length, None, slice_index_or, slice_set};
 ghost use Rattle.marks.specs.Marks.{numbered, Unmarked, names, cleared};
-ghost use Rattle.marks.specs.Full.{full-state, full-new, full-act, full-get};
+ghost use Rattle.marks.specs.Full.{full_state, full_new, full_act, full_get};
 
 use crate::scheme::{Scheme, Strict};
 use basis::place::Place;
@@ -16,8 +16,8 @@ pub struct Full {
 impl Full {
     // No seat has a mark.
     pub fn new() -> Full
-        ensures table { Unmarked (full-get (full-state result)) }
-        ensures exact { full-state result ≡ full-new }
+        ensures table { Unmarked (full_get (full_state result)) }
+        ensures exact { full_state result ≡ full_new }
     {
         Full { marks: [None; 16] }
     }
@@ -67,11 +67,11 @@ fn clear_each(marks: &mut [Option<Place>], p: Place)
 }
 
 impl Scheme for Full {
-    ghost table = { λ s. full-get (full-state s) };
+    ghost table = { λ s. full_get (full_state s) };
 
     ghost strict = { true };
 
-    ghost acts = { λ o a b. full-state b ≡ full-act o (full-state a) };
+    ghost acts = { λ o a b. full_state b ≡ full_act o (full_state a) };
 
     fn reserve(&mut self, t: Seat, p: Place) {
         self.put(t, Some(p));

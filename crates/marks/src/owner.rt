@@ -1,9 +1,9 @@
 // The owner scheme: a mark for each seat, good as long as the seat owns the slot of the marked place. It is relaxed: a
 // reserve takes the slot from whoever owned it.
 ghost use Rattle.std.specs.Prelude.{◌≡◌, false, Some, None, slice_index_or, slice_set};
-ghost use Rattle.marks.specs.Marks.{numbered, seat-number, Unmarked, names};
+ghost use Rattle.marks.specs.Marks.{numbered, seat_number, Unmarked, names};
 ghost use Rattle.marks.specs.Spread.{slot};
-ghost use Rattle.marks.specs.Owner.{Sixteens, owner-state, owner-new, owner-act, owner-get};
+ghost use Rattle.marks.specs.Owner.{Sixteens, owner_state, owner_new, owner_act, owner_get};
 
 use crate::scheme::Scheme;
 use crate::spread::slot_of;
@@ -20,8 +20,8 @@ pub struct Owner {
 impl Owner {
     // No seat has a mark, and nobody owns a slot.
     pub fn new() -> Owner
-        ensures table { Unmarked (owner-get (owner-state result)) }
-        ensures exact { owner-state result ≡ owner-new }
+        ensures table { Unmarked (owner_get (owner_state result)) }
+        ensures exact { owner_state result ≡ owner_new }
     {
         Owner {
             marks: [None; 16],
@@ -57,13 +57,13 @@ impl Owner {
     }
 
     fn mark_of(&self, t: Seat) -> Option<Place>
-        ensures { numbered result ≡ slice_index_or (owner-state self.now).marks t.number None }
+        ensures { numbered result ≡ slice_index_or (owner_state self.now).marks t.number None }
     {
         self.marks[t.number() as usize]
     }
 
     fn owner_of(&self, p: Place) -> Option<Seat>
-        ensures { seat-number result ≡ slice_index_or (owner-state self.now).owners (slot p.number) None }
+        ensures { seat_number result ≡ slice_index_or (owner_state self.now).owners (slot p.number) None }
     {
         self.owners[slot_of(p)]
     }
@@ -71,7 +71,7 @@ impl Owner {
 
 // Whether the owner is seat t.
 fn is_owner(owner: Option<Seat>, t: Seat) -> bool
-    ensures { result ≡ names t.number (seat-number owner) }
+    ensures { result ≡ names t.number (seat_number owner) }
 {
     match owner {
         Some(u) => u.number() == t.number(),
@@ -80,11 +80,11 @@ fn is_owner(owner: Option<Seat>, t: Seat) -> bool
 }
 
 impl Scheme for Owner {
-    ghost table = { λ s. owner-get (owner-state s) };
+    ghost table = { λ s. owner_get (owner_state s) };
 
     ghost strict = { false };
 
-    ghost acts = { λ o a b. owner-state b ≡ owner-act o (owner-state a) };
+    ghost acts = { λ o a b. owner_state b ≡ owner_act o (owner_state a) };
 
     fn reserve(&mut self, t: Seat, p: Place) {
         self.take(t, p);

@@ -1,6 +1,6 @@
 // Two schemes side by side, each for the seats of one bank. It is strict if both are.
 ghost use Rattle.std.specs.Prelude.{◌≡◌, ◌&&◌};
-ghost use Rattle.marks.specs.Pair.{uses-second, banked, paired, pair-table, pair-acts};
+ghost use Rattle.marks.specs.Pair.{uses_second, banked, paired, pair_table, pair_acts};
 
 use crate::scheme::{Scheme, Strict};
 use basis::bank_bit::BankBit;
@@ -17,7 +17,7 @@ pub struct Pair<F, S> {
 
 // Whether seat t uses the second scheme.
 fn uses_second(bit: BankBit, t: Seat) -> bool
-    ensures { result ≡ uses-second bit.number t.number }
+    ensures { result ≡ uses_second bit.number t.number }
 {
     (t.number() >> bit.number()) % 2 == 1
 }
@@ -25,7 +25,7 @@ fn uses_second(bit: BankBit, t: Seat) -> bool
 impl<F: Scheme, S: Scheme> Pair<F, S> {
     // The two schemes as they are.
     pub fn new(first: F, second: S, bit: BankBit) -> Pair<F, S>
-        ensures table { pair-table F.Scheme.table S.Scheme.table result ≡ banked bit.number (F.Scheme.table first) (S.Scheme.table second) }
+        ensures table { pair_table F.Scheme.table S.Scheme.table result ≡ banked bit.number (F.Scheme.table first) (S.Scheme.table second) }
         ensures exact { result ≡ paired first second bit }
     {
         Pair { first, second, bit }
@@ -33,11 +33,11 @@ impl<F: Scheme, S: Scheme> Pair<F, S> {
 }
 
 impl<F: Scheme, S: Scheme> Scheme for Pair<F, S> {
-    ghost table = { pair-table F.Scheme.table S.Scheme.table };
+    ghost table = { pair_table F.Scheme.table S.Scheme.table };
 
     ghost strict = { F.Scheme.strict && S.Scheme.strict };
 
-    ghost acts = { pair-acts F.Scheme.acts S.Scheme.acts };
+    ghost acts = { pair_acts F.Scheme.acts S.Scheme.acts };
 
     fn reserve(&mut self, t: Seat, p: Place) {
         if uses_second(self.bit, t) {

@@ -3,7 +3,7 @@
 ghost use Rattle.std.specs.Prelude.{◌≡◌, ◌+◌, ◌<◌, false, Some, None, slice_index, slice_index_or, slice_set};
 ghost use Rattle.std.specs.Option.{option_map};
 ghost use Rattle.marks.specs.Marks.{Unmarked, cleared};
-ghost use Rattle.marks.specs.Version.{Sixteens, Sound, stamped, seen_of, kept_in, counter-of, version-state, version-new, version-revoke, version-act, version-get};
+ghost use Rattle.marks.specs.Version.{Sixteens, Sound, stamped, seen_of, kept_in, counter_of, version_state, version_new, version_revoke, version_act, version_get};
 
 use crate::scheme::Scheme;
 use crate::spread::slot_of;
@@ -28,14 +28,14 @@ pub struct Stamps {
 #[derive(Drop)]
 pub struct Version {
     kept: Stamps,
-    ghost sound: { Sound (version-state kept) },
+    ghost sound: { Sound (version_state kept) },
 }
 
 impl Version {
     // No seat has a mark, and all counters are `start`.
     pub fn new(start: u32) -> Version
-        ensures table { Unmarked (version-get (version-state result.kept)) }
-        ensures exact { version-state result.kept ≡ version-new start }
+        ensures table { Unmarked (version_get (version_state result.kept)) }
+        ensures exact { version_state result.kept ≡ version_new start }
     {
         Version {
             kept: Stamps {
@@ -50,7 +50,7 @@ impl Stamps {
     // Writes the mark, with the counter of its slot.
     fn stamp(&mut self, t: Seat, p: Place)
         ensures sixteen { Sixteens self.old }
-        ensures marks { self.new.marks ≡ slice_set self.old.marks t.number (Some (stamped p (counter-of self.old.counters p.number))) }
+        ensures marks { self.new.marks ≡ slice_set self.old.marks t.number (Some (stamped p (counter_of self.old.counters p.number))) }
         ensures counters { self.new.counters ≡ self.old.counters }
     {
         let counter = self.counters[slot_of(p)];
@@ -89,7 +89,7 @@ impl Stamps {
     // One more revoke of place p is counted.
     fn count_revoke(&mut self, p: Place)
         ensures sixteen { Sixteens self.old }
-        ensures exact { version-state self.new ≡ version-revoke (version-state self.old) p.number }
+        ensures exact { version_state self.new ≡ version_revoke (version_state self.old) p.number }
     {
         let slot = slot_of(p);
         let counter = self.counters[slot];
@@ -101,14 +101,14 @@ impl Stamps {
     }
 
     fn mark_of(&self, t: Seat) -> Option<Stamped>
-        ensures { option_map seen_of result ≡ slice_index_or (version-state self.now).marks t.number None }
+        ensures { option_map seen_of result ≡ slice_index_or (version_state self.now).marks t.number None }
     {
         self.marks[t.number() as usize]
     }
 
     // The counter of the slot of place p.
     fn counter_of(&self, p: Place) -> u32
-        ensures { result ≡ counter-of self.now.counters p.number }
+        ensures { result ≡ counter_of self.now.counters p.number }
     {
         self.counters[slot_of(p)]
     }
@@ -136,11 +136,11 @@ fn clear_slot(marks: &mut [Option<Stamped>], slot: usize)
 }
 
 impl Scheme for Version {
-    ghost table = { λ s. version-get (version-state s.kept) };
+    ghost table = { λ s. version_get (version_state s.kept) };
 
     ghost strict = { false };
 
-    ghost acts = { λ o a b. version-state b.kept ≡ version-act o (version-state a.kept) };
+    ghost acts = { λ o a b. version_state b.kept ≡ version_act o (version_state a.kept) };
 
     fn reserve(&mut self, t: Seat, p: Place) {
         self.kept.stamp(t, p);

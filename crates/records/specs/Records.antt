@@ -44,13 +44,13 @@ described (Step seat) = codes "step" ++ named (codes "seat") seat
 described (Abandon seat) = codes "abandon" ++ named (codes "seat") seat
 
 -- whether a record is a setup, which has to be the first record and no other
-abbrev pub is-setup : Record → Bool
-is-setup (Setup s cells window) = true
-is-setup (Join seat) = false
-is-setup (Leave seat) = false
-is-setup (Begin k seat sector) = false
-is-setup (Step seat) = false
-is-setup (Abandon seat) = false
+abbrev pub is_setup : Record → Bool
+is_setup (Setup s cells window) = true
+is_setup (Join seat) = false
+is_setup (Leave seat) = false
+is_setup (Begin k seat sector) = false
+is_setup (Step seat) = false
+is_setup (Abandon seat) = false
 
 -- a number in two bytes and in four, the highest first, and back
 abbrev pub two : ℕ → List ℕ
@@ -59,11 +59,11 @@ two n = n / 256 ∷ n % 256 ∷ []
 abbrev pub four : ℕ → List ℕ
 four n = two (n / 65536) ++ two (n % 65536)
 
-abbrev pub from-two : ℕ → ℕ → ℕ
-from-two h l = h * 256 + l
+abbrev pub from_two : ℕ → ℕ → ℕ
+from_two h l = h * 256 + l
 
-abbrev pub from-four : ℕ → ℕ → ℕ → ℕ → ℕ
-from-four a b c d = a * 16777216 + b * 65536 + c * 256 + d
+abbrev pub from_four : ℕ → ℕ → ℕ → ℕ → ℕ
+from_four a b c d = a * 16777216 + b * 65536 + c * 256 + d
 
 -- the bytes of a record from its call byte on
 abbrev pub fields : Record → List ℕ
@@ -88,28 +88,28 @@ Fits (Step seat) = seat < 2 ^ 8
 Fits (Abandon seat) = seat < 2 ^ 8
 
 -- the scheme of that number, if there is one
-abbrev pub scheme-named : ℕ → Option SchemeName
-scheme-named n = cond (n == 1) (Some Full) (cond (n == 2) (Some Owner) (cond (n == 3) (Some Version) None))
+abbrev pub scheme_named : ℕ → Option SchemeName
+scheme_named n = cond (n == 1) (Some Full) (cond (n == 2) (Some Owner) (cond (n == 3) (Some Version) None))
 
 -- a call byte and a seat
-abbrev pub seat-call : ℕ → ℕ → Option Record
-seat-call c seat = cond (c == 1) (Some (Join seat)) (cond (c == 2) (Some (Leave seat)) (cond (c == 6) (Some (Step seat)) (cond (c == 7) (Some (Abandon seat)) None)))
+abbrev pub seat_call : ℕ → ℕ → Option Record
+seat_call c seat = cond (c == 1) (Some (Join seat)) (cond (c == 2) (Some (Leave seat)) (cond (c == 6) (Some (Step seat)) (cond (c == 7) (Some (Abandon seat)) None)))
 
 -- a call byte, a scheme, a number of cells and a window
-abbrev pub setup-call : ℕ → ℕ → ℕ → ℕ → Option Record
-setup-call c s cells window = cond (c == 0) (option_map (λ named. Setup named cells window) (scheme-named s)) None
+abbrev pub setup_call : ℕ → ℕ → ℕ → ℕ → Option Record
+setup_call c s cells window = cond (c == 0) (option_map (λ named. Setup named cells window) (scheme_named s)) None
 
 -- a call byte, a seat and a sector
-abbrev pub begin-call : ℕ → ℕ → ℕ → Option Record
-begin-call c seat sector = cond (c == 3) (Some (Begin Lookup seat sector)) (cond (c == 4) (Some (Begin Insert seat sector)) (cond (c == 5) (Some (Begin Remove seat sector)) None))
+abbrev pub begin_call : ℕ → ℕ → ℕ → Option Record
+begin_call c seat sector = cond (c == 3) (Some (Begin Lookup seat sector)) (cond (c == 4) (Some (Begin Insert seat sector)) (cond (c == 5) (Some (Begin Remove seat sector)) None))
 
 -- what bytes say, from the call byte on; the number of bytes and the call byte have to fit together
 abbrev pub decoded : List ℕ → Option Record
 decoded [] = None
 decoded (c ∷ []) = None
-decoded (c ∷ seat ∷ []) = seat-call c seat
+decoded (c ∷ seat ∷ []) = seat_call c seat
 decoded (c ∷ seat ∷ x ∷ []) = None
 decoded (c ∷ seat ∷ x ∷ y ∷ []) = None
-decoded (c ∷ s ∷ high ∷ low ∷ window ∷ []) = setup-call c s (from-two high low) window
-decoded (c ∷ seat ∷ x3 ∷ x2 ∷ x1 ∷ x0 ∷ []) = begin-call c seat (from-four x3 x2 x1 x0)
+decoded (c ∷ s ∷ high ∷ low ∷ window ∷ []) = setup_call c s (from_two high low) window
+decoded (c ∷ seat ∷ x3 ∷ x2 ∷ x1 ∷ x0 ∷ []) = begin_call c seat (from_four x3 x2 x1 x0)
 decoded (c ∷ seat ∷ x3 ∷ x2 ∷ x1 ∷ x0 ∷ x ∷ xs) = None

@@ -1,6 +1,6 @@
 // What a record of a schedule says.
 ghost use Rattle.std.specs.Prelude.{◌≡◌, [], Some};
-ghost use Rattle.records.specs.Records.{scheme, begin, described, is-setup, scheme-named, seat-call, setup-call, begin-call, decoded};
+ghost use Rattle.records.specs.Records.{scheme, begin, described, is_setup, scheme_named, seat_call, setup_call, begin_call, decoded};
 
 use basis::kind::Kind;
 use std::fmt;
@@ -67,14 +67,14 @@ fn begin_word(kind: Kind) -> &'static str
 impl Record {
     // Whether this is a setup, which has to be the first record and no other.
     pub fn is_setup(self) -> bool
-        ensures { result ≡ is-setup self }
+        ensures { result ≡ is_setup self }
     {
         matches!(self, Record::Setup { .. })
     }
 }
 
 fn scheme_of(number: u8) -> Option<SchemeName>
-    ensures { result ≡ scheme-named number }
+    ensures { result ≡ scheme_named number }
 {
     match number {
         1 => Some(SchemeName::Full),
@@ -86,7 +86,7 @@ fn scheme_of(number: u8) -> Option<SchemeName>
 
 // The calls whose only field is a seat.
 fn seat_record(call: u8, seat: u8) -> Option<Record>
-    ensures { result ≡ seat-call call seat }
+    ensures { result ≡ seat_call call seat }
 {
     match call {
         1 => Some(Record::Join { seat }),
@@ -98,7 +98,7 @@ fn seat_record(call: u8, seat: u8) -> Option<Record>
 }
 
 fn setup_record(call: u8, number: u8, cells: u16, window: u8) -> Option<Record>
-    ensures { result ≡ setup-call call number cells window }
+    ensures { result ≡ setup_call call number cells window }
 {
     if call != 0 {
         return None;
@@ -114,7 +114,7 @@ fn setup_record(call: u8, number: u8, cells: u16, window: u8) -> Option<Record>
 }
 
 fn begin_record(call: u8, seat: u8, sector: u32) -> Option<Record>
-    ensures { result ≡ begin-call call seat sector }
+    ensures { result ≡ begin_call call seat sector }
 {
     let kind = match call {
         3 => Kind::Lookup,

@@ -12,37 +12,37 @@ use Rattle.records.specs.declared.record.SchemeName.{SchemeName}
 use Rattle.schedule.specs.Reading.{Entry}
 use Rattle.schedule.specs.Whole.{seen}
 use Rattle.replay.specs.Answers.{asks_of}
-use Rattle.replay.specs.Runs.{Lawful-by, Answered}
-use Rattle.replay.specs.Texts.{outcomes-from, outcomes, Lawful-from, Lawfully}
+use Rattle.replay.specs.Runs.{LawfulBy, Answered}
+use Rattle.replay.specs.Texts.{outcomes_from, outcomes, LawfulFrom, Lawfully}
 
 -- these answers are the outcomes of a first record and those after it, lawfully
 abbrev pub Outcome-from : Record → List Entry → List Answer → List Answer → Type 0
-Outcome-from r es stop answers = (answers ≡ outcomes-from r es stop) × Lawful-from r es
+Outcome-from r es stop answers = (answers ≡ outcomes_from r es stop) × LawfulFrom r es
 
 -- a first record that is no setup, which never comes
-pub no-setup : (r : Record) (es : List Entry) (stop answers : List Answer) → ((name : SchemeName) (n w : ℕ) → r ≡ Setup name n w → ⊥) → answers ≡ [] → Outcome-from r es stop answers
-unfolding outcomes-from
-no-setup (Setup name n w) es stop answers never e = absurd (never name n w refl)
-no-setup (Join seat) es stop answers never e = (e, tt)
-no-setup (Leave seat) es stop answers never e = (e, tt)
-no-setup (Begin kind seat sector) es stop answers never e = (e, tt)
-no-setup (Step seat) es stop answers never e = (e, tt)
-no-setup (Abandon seat) es stop answers never e = (e, tt)
+pub no_setup : (r : Record) (es : List Entry) (stop answers : List Answer) → ((name : SchemeName) (n w : ℕ) → r ≡ Setup name n w → ⊥) → answers ≡ [] → Outcome-from r es stop answers
+unfolding outcomes_from
+no_setup (Setup name n w) es stop answers never e = absurd (never name n w refl)
+no_setup (Join seat) es stop answers never e = (e, tt)
+no_setup (Leave seat) es stop answers never e = (e, tt)
+no_setup (Begin kind seat sector) es stop answers never e = (e, tt)
+no_setup (Step seat) es stop answers never e = (e, tt)
+no_setup (Abandon seat) es stop answers never e = (e, tt)
 
 module _ (r : Record) (name : SchemeName) (n w : ℕ) (is : r ≡ Setup name n w) (es : List Entry) (stop answers : List Answer) where
   -- a setup that is refused
-  pub refused-setup : makes n 16 w ≡ false → answers ≡ Refused WrongSizes ∷ [] → Outcome-from r es stop answers
-  unfolding outcomes-from
-  refused-setup bad e =
+  pub refused_setup : makes n 16 w ≡ false → answers ≡ Refused WrongSizes ∷ [] → Outcome-from r es stop answers
+  unfolding outcomes_from
+  refused_setup bad e =
       subst (λ (x : Record). Outcome-from x es stop answers) (sym is) (e ∙ sym (cond-false (makes n 16 w) _ _ bad), λ good. absurd (both_ways _ bad good))
 
   -- a setup that is accepted, and the answers of the calls after it
-  pub accepted-setup : (calls : List Answer) → Answered name n w (asks_of es) calls → answers ≡ Ok ∷ (calls ++ stop) → Outcome-from r es stop answers
-  unfolding outcomes-from
-  accepted-setup calls a e =
+  pub accepted_setup : (calls : List Answer) → Answered name n w (asks_of es) calls → answers ≡ Ok ∷ (calls ++ stop) → Outcome-from r es stop answers
+  unfolding outcomes_from
+  accepted_setup calls a e =
       subst (λ (x : Record). Outcome-from x es stop answers) (sym is) (
         e ∙ ap (λ l. Ok ∷ (l ++ stop)) a.computed ∙ sym (cond-true (makes n 16 w) _ _ a.sizes),
-        λ _. subst (λ l. Lawful-by name n w (asks_of es) l) a.computed a.lawful,
+        λ _. subst (λ l. LawfulBy name n w (asks_of es) l) a.computed a.lawful,
       )
 
 -- what is said of a value that is there, or not there

@@ -9,10 +9,10 @@ use Rattle.marks.specs.Meaning.{Table, Order}
 use Rattle.list_driver.specs.Asks.{runnable, Ran}
 use Rattle.list_law.specs.Call.{Cell, State}
 use Rattle.list_law.specs.Making.{makes}
-use Rattle.list_law.specs.Performed.{Ask, answersFrom}
-use Rattle.list_law.specs.Worked.{sector-below}
-use Rattle.list_law.proofs.Driven.{driven-at}
-use Rattle.list_law.proofs.Computed.{answers-from}
+use Rattle.list_law.specs.Performed.{Ask, answers_from}
+use Rattle.list_law.specs.Worked.{sector_below}
+use Rattle.list_law.proofs.Driven.{driven_at}
+use Rattle.list_law.proofs.Computed.{answers_computed}
 use Rattle.replay.specs.Runs.{Over}
 
 -- accepted, or not
@@ -20,13 +20,13 @@ told : (b : Bool) → cond b Ok (Refused WrongSizes) ≡ Ok → b ≡ true
 told true e = refl
 told false e = let z : ◌≡◌ {A = ℕ} 0 1 = cc in absurd (omega arith)
 
-not-told : (b : Bool) → (cond b Ok (Refused WrongSizes) ≡ Ok → ⊥) → b ≡ false
-not-told true h = absurd (h refl)
-not-told false h = refl
+not_told : (b : Bool) → (cond b Ok (Refused WrongSizes) ≡ Ok → ⊥) → b ≡ false
+not_told true h = absurd (h refl)
+not_told false h = refl
 
 module _ {M : Type 0} (table : M → Table) (strict : Bool) (acts : Order → M → M → Type 0)
     (n r w : ℕ) (asks : List (Ask Sector)) (before : List Answer) (s : State Sector M) (a : Answer) (after : List Answer) (s' : State Sector M)
-    (ran : Ran sector-below table strict acts n r w asks before s a after s')
+    (ran : Ran sector_below table strict acts n r w asks before s a after s')
     (sixteen : r ≡ 16) (rows : length s.rows ≡ 16) (cells : length s.cells ≡ n) (as_many : length asks ≡ length before) where
   fits : runnable n r w (length asks) (length before) ≡ makes n 16 w
   fits = λ i. eq-eqb (length asks) (length before) as_many i && makes n (sixteen i) w
@@ -35,7 +35,7 @@ module _ {M : Type 0} (table : M → Table) (strict : Bool) (acts : Order → M 
   accepted e = sym fits ∙ told _ (sym ran.answer ∙ e)
 
   pub refused : (a ≡ Ok → ⊥) → makes n 16 w ≡ false
-  refused h = sym fits ∙ not-told _ (λ e. h (ran.answer ∙ e))
+  refused h = sym fits ∙ not_told _ (λ e. h (ran.answer ∙ e))
 
   pub over : a ≡ Ok → Over table strict acts s.cells w s.marks asks after
   over e =
@@ -47,15 +47,15 @@ module _ {M : Type 0} (table : M → Table) (strict : Bool) (acts : Order → M 
         end = s';
         made = d.1.made sized;
         released = d.1.marks sized;
-        driven = driven-at (sym cells) refl d.2;
+        driven = driven_at (sym cells) refl d.2;
       }
 
 -- the same cells and the same answers
-pub over-as : {M : Type 0} (table : M → Table) (strict : Bool) (acts : Order → M → M → Type 0) {given given' : List (Cell Sector)} (w : ℕ) (m : M) (asks : List (Ask Sector)) {answers answers' : List Answer} → given ≡ given' → answers ≡ answers' → Over table strict acts given w m asks answers → Over table strict acts given' w m asks answers'
-over-as table strict acts w m asks e f o = subst (λ (x : List (Cell Sector) × List Answer). Over table strict acts x.0 w m asks x.1) (λ i. (e i, f i)) o
+pub over_as : {M : Type 0} (table : M → Table) (strict : Bool) (acts : Order → M → M → Type 0) {given given' : List (Cell Sector)} (w : ℕ) (m : M) (asks : List (Ask Sector)) {answers answers' : List Answer} → given ≡ given' → answers ≡ answers' → Over table strict acts given w m asks answers → Over table strict acts given' w m asks answers'
+over_as table strict acts w m asks e f o = subst (λ (x : List (Cell Sector) × List Answer). Over table strict acts x.0 w m asks x.1) (λ i. (e i, f i)) o
 
 -- over a scheme whose acts are a function of its state, the answers are computed from that state
-pub over-computes : {M N : Type 0} (state : M → N) (get : N → Table) (strict : Bool) (act : Order → N → N) (given : List (Cell Sector)) (w : ℕ) (m : M) (asks : List (Ask Sector)) (answers : List Answer) (n : N) → state m ≡ n
-    → Over (λ (x : M). get (state x)) strict (λ o a b. state b ≡ act o (state a)) given w m asks answers → answers ≡ answersFrom sector-below get act given w n asks
-over-computes state get strict act given w m asks answers n e o =
-    answers-from sector-below state get strict act given w m o.start asks answers o.end o.made o.released o.driven.in-turn ∙ ap (λ x. answersFrom sector-below get act given w x asks) e
+pub over_computes : {M N : Type 0} (state : M → N) (get : N → Table) (strict : Bool) (act : Order → N → N) (given : List (Cell Sector)) (w : ℕ) (m : M) (asks : List (Ask Sector)) (answers : List Answer) (n : N) → state m ≡ n
+    → Over (λ (x : M). get (state x)) strict (λ o a b. state b ≡ act o (state a)) given w m asks answers → answers ≡ answers_from sector_below get act given w n asks
+over_computes state get strict act given w m asks answers n e o =
+    answers_computed sector_below state get strict act given w m o.start asks answers o.end o.made o.released o.driven.in_turn ∙ ap (λ x. answers_from sector_below get act given w x asks) e

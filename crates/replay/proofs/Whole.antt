@@ -8,46 +8,46 @@ use Rattle.basis.specs.declared.answer.Answer.TheVariants.{Refused}
 use Rattle.basis.specs.Refusals.{refusal}
 use Rattle.basis.proofs.Numbers.{same_number}
 use Rattle.schedule.specs.declared.contents.Contents.{Contents}
-use Rattle.schedule.specs.Reading.{Reading, handed, ended, malformed, open-refusal}
+use Rattle.schedule.specs.Reading.{Reading, handed, ended, malformed, open_refusal}
 use Rattle.schedule.specs.Schedules.{read_all}
 use Rattle.schedule.specs.Lines.{line_of, lines_from}
-use Rattle.schedule.specs.Whole.{seen, stop-number, entries-of, refusal-of, Holds}
-use Rattle.replay.specs.Texts.{stopped, outcomes, stop-at, opened-text, text_of, Lawfully, Replayed}
-use Rattle.replay.specs.Views.{refused-by}
+use Rattle.schedule.specs.Whole.{seen, stop_number, entries_of, refusal_of, Holds}
+use Rattle.replay.specs.Texts.{stopped, outcomes, stop_at, opened_text, text_of, Lawfully, Replayed}
+use Rattle.replay.specs.Views.{refused_by}
 use Rattle.replay.proofs.Answering.{Outcome}
 
 -- the refusal at which reading stopped, known by its number
-stopped-so : (r : Option Refusal) (x : Reading) → option_map (λ (q : Refusal). (refusal q).number) r ≡ stop-number x → refused-by r ≡ stopped x
-stopped-so None (handed e left) h = refl
-stopped-so None ended h = refl
-stopped-so None malformed h = let z : ◌≡◌ {A = ℕ} 0 1 = cc in absurd (omega arith)
-stopped-so (Some q) (handed e left) h = let z : ◌≡◌ {A = ℕ} 0 1 = cc in absurd (omega arith)
-stopped-so (Some q) ended h = let z : ◌≡◌ {A = ℕ} 0 1 = cc in absurd (omega arith)
-stopped-so (Some q) malformed h = let n : (refusal q).number ≡ 11 = cc in ap (λ (x : Refusal). Refused x ∷ []) (same_number q BadRecord n)
+stopped_so : (r : Option Refusal) (x : Reading) → option_map (λ (q : Refusal). (refusal q).number) r ≡ stop_number x → refused_by r ≡ stopped x
+stopped_so None (handed e left) h = refl
+stopped_so None ended h = refl
+stopped_so None malformed h = let z : ◌≡◌ {A = ℕ} 0 1 = cc in absurd (omega arith)
+stopped_so (Some q) (handed e left) h = let z : ◌≡◌ {A = ℕ} 0 1 = cc in absurd (omega arith)
+stopped_so (Some q) ended h = let z : ◌≡◌ {A = ℕ} 0 1 = cc in absurd (omega arith)
+stopped_so (Some q) malformed h = let n : (refusal q).number ≡ 11 = cc in ap (λ (x : Refusal). Refused x ∷ []) (same_number q BadRecord n)
 
 never_both : (n : ℕ) (o : Option ℕ) → o ≡ Some n → o ≡ None → ⊥
 never_both n o e f = let z : ◌≡◌ {A = ℕ} 0 1 = cc in absurd (omega arith)
 
 -- bytes that are not opened
-pub not_opened : (bytes text : List ℕ) (r : Refusal) → open-refusal bytes ≡ Some (refusal r).number → text ≡ line_of 0 (Refused r) → Replayed bytes text
+pub not_opened : (bytes text : List ℕ) (r : Refusal) → open_refusal bytes ≡ Some (refusal r).number → text ≡ line_of 0 (Refused r) → Replayed bytes text
 unfolding text_of
 not_opened bytes text r e t = record {
-  computed = t ∙ sym (ap (opened-text bytes) e);
+  computed = t ∙ sym (ap (opened_text bytes) e);
   lawful = λ f. absurd (never_both _ _ e f);
   accounted = λ f. absurd (never_both _ _ e f);
 }
 
 -- bytes that are opened: the records and the stop are those that were read
-pub opened : (bytes text : List ℕ) (c : Contents) (answers : List Answer) → open-refusal bytes ≡ None → Holds bytes c → Outcome (vec_items c.parts) (refused-by c.refusal) answers → text ≡ lines_from 1 answers → Replayed bytes text
+pub opened : (bytes text : List ℕ) (c : Contents) (answers : List Answer) → open_refusal bytes ≡ None → Holds bytes c → Outcome (vec_items c.parts) (refused_by c.refusal) answers → text ≡ lines_from 1 answers → Replayed bytes text
 unfolding text_of
 opened bytes text c answers e h o t = record {
-  computed = t ∙ ap (lines_from 1) (o.0 ∙ (λ i. outcomes (entries i) (stop i))) ∙ sym (ap (opened-text bytes) e);
+  computed = t ∙ ap (lines_from 1) (o.0 ∙ (λ i. outcomes (entries i) (stop i))) ∙ sym (ap (opened_text bytes) e);
   lawful = λ _. subst Lawfully entries o.1;
   accounted = h.accounted;
 }
   where
     entries : map seen (vec_items c.parts) ≡ (read_all bytes).entries
-    entries = h.parts ∙ ap (entries-of bytes) e
+    entries = h.parts ∙ ap (entries_of bytes) e
 
-    stop : refused-by c.refusal ≡ stopped (stop-at bytes)
-    stop = stopped-so c.refusal (stop-at bytes) (h.refused ∙ ap (refusal-of bytes) e)
+    stop : refused_by c.refusal ≡ stopped (stop_at bytes)
+    stop = stopped_so c.refusal (stop_at bytes) (h.refused ∙ ap (refusal_of bytes) e)

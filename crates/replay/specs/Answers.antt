@@ -3,13 +3,13 @@
 use Rattle.std.specs.Prelude.{ℕ, false, List, [], ◌∷◌, ◌++◌, replicate, None}
 use Rattle.basis.specs.declared.answer.Answer.{Answer}
 use Rattle.keys.specs.declared.sector.Sector.{Sector}
-use Rattle.marks.specs.Full.{full-new, full-act, full-get}
-use Rattle.marks.specs.Owner.{owner-new, owner-act, owner-get}
-use Rattle.marks.specs.Version.{version-new, version-act, version-get}
+use Rattle.marks.specs.Full.{full_new, full_act, full_get}
+use Rattle.marks.specs.Owner.{owner_new, owner_act, owner_get}
+use Rattle.marks.specs.Version.{version_new, version_act, version_get}
 use Rattle.ledger.specs.Ledger.{What, join, leave, begin, step, abandon}
 use Rattle.list_law.specs.Call.{Cell, cell}
-use Rattle.list_law.specs.Performed.{Ask, answersFrom}
-use Rattle.list_law.specs.Worked.{sector, sector-below}
+use Rattle.list_law.specs.Performed.{Ask, answers_from}
+use Rattle.list_law.specs.Worked.{sector, sector_below}
 use Rattle.records.specs.declared.record.Record.{Record}
 use Rattle.records.specs.declared.record.Record.TheVariants.{Setup, Join, Leave, Begin, Step, Abandon}
 use Rattle.records.specs.declared.record.SchemeName.{SchemeName}
@@ -40,6 +40,6 @@ blank n = replicate n (cell (sector 0) None false)
 
 -- the answers of calls on an index of n cells with window w, over the named scheme: full, owner with all slots nobody, version from 0
 unfoldable pub answers_by : SchemeName → ℕ → ℕ → List (Ask Sector) → List Answer
-answers_by Full n w asks = answersFrom sector-below full-get full-act (blank n) w full-new asks
-answers_by Owner n w asks = answersFrom sector-below owner-get owner-act (blank n) w owner-new asks
-answers_by Version n w asks = answersFrom sector-below version-get version-act (blank n) w (version-new 0) asks
+answers_by Full n w asks = answers_from sector_below full_get full_act (blank n) w full_new asks
+answers_by Owner n w asks = answers_from sector_below owner_get owner_act (blank n) w owner_new asks
+answers_by Version n w asks = answers_from sector_below version_get version_act (blank n) w (version_new 0) asks

@@ -6,11 +6,11 @@ use Rattle.basis.specs.declared.refusal.Refusal.TheVariants.{WrongSizes, BadReco
 use Rattle.list_law.specs.Making.{makes}
 use Rattle.records.specs.declared.record.Record.{Record}
 use Rattle.records.specs.declared.record.Record.TheVariants.{Setup, Join, Leave, Begin, Step, Abandon}
-use Rattle.schedule.specs.Reading.{Entry, Reading, handed, ended, malformed, next_of, open-refusal}
+use Rattle.schedule.specs.Reading.{Entry, Reading, handed, ended, malformed, next_of, open_refusal}
 use Rattle.schedule.specs.Schedules.{read_all, still, Accounted}
-use Rattle.schedule.specs.Lines.{lines_from, refused-line}
+use Rattle.schedule.specs.Lines.{lines_from, refused_line}
 use Rattle.replay.specs.Answers.{asks_of, answers_by}
-use Rattle.replay.specs.Runs.{Lawful-by}
+use Rattle.replay.specs.Runs.{LawfulBy}
 
 -- the refusal of the record at which reading stops, if it does not come to the end
 abbrev pub stopped : Reading → List Answer
@@ -20,49 +20,49 @@ stopped malformed = Refused BadRecord ∷ []
 
 -- what the records are answered, the first being the setup; `stop` is what comes after them. A refused setup is the last that is answered.
 -- The reader hands out no other record first
-unfoldable pub outcomes-from : Record → List Entry → List Answer → List Answer
-outcomes-from (Setup name cells window) es stop =
+unfoldable pub outcomes_from : Record → List Entry → List Answer → List Answer
+outcomes_from (Setup name cells window) es stop =
     cond (makes cells 16 window) (Ok ∷ (answers_by name cells window (asks_of es) ++ stop)) (Refused WrongSizes ∷ [])
-outcomes-from (Join seat) es stop = []
-outcomes-from (Leave seat) es stop = []
-outcomes-from (Begin kind seat sector) es stop = []
-outcomes-from (Step seat) es stop = []
-outcomes-from (Abandon seat) es stop = []
+outcomes_from (Join seat) es stop = []
+outcomes_from (Leave seat) es stop = []
+outcomes_from (Begin kind seat sector) es stop = []
+outcomes_from (Step seat) es stop = []
+outcomes_from (Abandon seat) es stop = []
 
 unfoldable pub outcomes : List Entry → List Answer → List Answer
 outcomes [] stop = stop
-outcomes (e ∷ es) stop = outcomes-from e.content es stop
+outcomes (e ∷ es) stop = outcomes_from e.content es stop
 
 -- how reading of bytes ends, after their last record
-abbrev pub stop-at : List ℕ → Reading
-stop-at bytes = next_of (still true (read_all bytes).entries) (length bytes) (read_all bytes).rest
+abbrev pub stop_at : List ℕ → Reading
+stop_at bytes = next_of (still true (read_all bytes).entries) (length bytes) (read_all bytes).rest
 
 -- the text: the refusal to open the bytes on line 0, or else a line for each record, numbered from 1
-abbrev pub opened-text : List ℕ → Option ℕ → List ℕ
-opened-text bytes (Some n) = refused-line 0 n
-opened-text bytes None = lines_from 1 (outcomes (read_all bytes).entries (stopped (stop-at bytes)))
+abbrev pub opened_text : List ℕ → Option ℕ → List ℕ
+opened_text bytes (Some n) = refused_line 0 n
+opened_text bytes None = lines_from 1 (outcomes (read_all bytes).entries (stopped (stop_at bytes)))
 
 unfoldable pub text_of : List ℕ → List ℕ
-text_of bytes = opened-text bytes (open-refusal bytes)
+text_of bytes = opened_text bytes (open_refusal bytes)
 
 -- the answers of the calls after an accepted setup are those of a lawful run of exactly these calls
-abbrev pub Lawful-from : Record → List Entry → Type 0
-Lawful-from (Setup name cells window) es = makes cells 16 window ≡ true → Lawful-by name cells window (asks_of es) (answers_by name cells window (asks_of es))
-Lawful-from (Join seat) es = Unit {0}
-Lawful-from (Leave seat) es = Unit {0}
-Lawful-from (Begin kind seat sector) es = Unit {0}
-Lawful-from (Step seat) es = Unit {0}
-Lawful-from (Abandon seat) es = Unit {0}
+abbrev pub LawfulFrom : Record → List Entry → Type 0
+LawfulFrom (Setup name cells window) es = makes cells 16 window ≡ true → LawfulBy name cells window (asks_of es) (answers_by name cells window (asks_of es))
+LawfulFrom (Join seat) es = Unit {0}
+LawfulFrom (Leave seat) es = Unit {0}
+LawfulFrom (Begin kind seat sector) es = Unit {0}
+LawfulFrom (Step seat) es = Unit {0}
+LawfulFrom (Abandon seat) es = Unit {0}
 
 abbrev pub Lawfully : List Entry → Type 0
 Lawfully [] = Unit {0}
-Lawfully (e ∷ es) = Lawful-from e.content es
+Lawfully (e ∷ es) = LawfulFrom e.content es
 
 -- a schedule, replayed
 pub record Replayed (bytes : List ℕ) (text : List ℕ) : Type 0 where
   -- the text is computed from the bytes
   pub computed : text ≡ text_of bytes
   -- its answers are those of a lawful run
-  pub lawful : open-refusal bytes ≡ None → Lawfully (read_all bytes).entries
+  pub lawful : open_refusal bytes ≡ None → Lawfully (read_all bytes).entries
   -- its records are those that the bytes hold: none is skipped, none invented, and reading stops where the rest begins no record
-  pub accounted : open-refusal bytes ≡ None → Accounted bytes
+  pub accounted : open_refusal bytes ≡ None → Accounted bytes

@@ -1,9 +1,9 @@
 // What the records of a schedule ask of the index.
 ghost use Rattle.std.specs.Prelude.{◌≡◌, ◌++◌, map, IfOk, OnOk};
 ghost use Rattle.schedule.specs.Whole.{seen};
-ghost use Rattle.list_driver.specs.Asks.{ask-of};
+ghost use Rattle.list_driver.specs.Asks.{ask_of};
 ghost use Rattle.replay.specs.Answers.{asked_by, asks_of};
-ghost use Rattle.replay.specs.Views.{listed-ask};
+ghost use Rattle.replay.specs.Views.{listed_ask};
 
 use keys::sector::Sector;
 use list_driver::driver::Ask;
@@ -14,7 +14,7 @@ use std::alloc::{AllocError, Global};
 
 // What a record asks, with interrupts open; a setup asks nothing.
 fn ask_by(content: Record) -> Option<Ask<Sector>>
-    ensures { listed-ask result ≡ asked_by content }
+    ensures { listed_ask result ≡ asked_by content }
 {
     let (seat, request) = match content {
         Record::Setup { .. } => return None,
@@ -37,7 +37,7 @@ fn ask_by(content: Record) -> Option<Ask<Sector>>
 
 // One record more.
 fn push_ask(asks: &mut Vec<Ask<Sector>>, content: Record) -> Result<(), AllocError>
-    ensures { OnOk result (map ask-of asks.new.items ≡ map ask-of asks.old.items ++ asked_by content) }
+    ensures { OnOk result (map ask_of asks.new.items ≡ map ask_of asks.old.items ++ asked_by content) }
 {
     if let Some(ask) = ask_by(content) {
         asks.push(ask)?;
@@ -47,7 +47,7 @@ fn push_ask(asks: &mut Vec<Ask<Sector>>, content: Record) -> Result<(), AllocErr
 
 // What the records ask, one after another.
 pub fn asks_of(heap: Global, parts: &[Part<'_>]) -> Result<Vec<Ask<Sector>>, AllocError>
-    ensures { IfOk result (λ v. map ask-of v.items ≡ asks_of (map seen parts.now)) }
+    ensures { IfOk result (λ v. map ask_of v.items ≡ asks_of (map seen parts.now)) }
 {
     let mut asks = Vec::new(heap);
     for part in parts {

@@ -1,8 +1,8 @@
 // What each record of a schedule is answered.
 ghost use Rattle.std.specs.Prelude.{◌≡◌, [], ◌∷◌, ◌++◌, map, IfOk, OnOk};
 ghost use Rattle.schedule.specs.Whole.{seen};
-ghost use Rattle.replay.specs.Texts.{outcomes-from, outcomes, Lawful-from, Lawfully};
-ghost use Rattle.replay.specs.Views.{refused-by};
+ghost use Rattle.replay.specs.Texts.{outcomes_from, outcomes, LawfulFrom, Lawfully};
+ghost use Rattle.replay.specs.Views.{refused_by};
 
 use crate::asks::asks_of;
 use crate::runs::answers_by;
@@ -14,7 +14,7 @@ use std::alloc::{AllocError, Global};
 
 // The refusal at which reading stopped is the last answer, if there is one.
 fn push_stop(answers: &mut Vec<Answer>, stop: Option<Refusal>) -> Result<(), AllocError>
-    ensures { OnOk result (answers.new.items ≡ answers.old.items ++ refused-by stop) }
+    ensures { OnOk result (answers.new.items ≡ answers.old.items ++ refused_by stop) }
 {
     if let Some(refusal) = stop {
         answers.push(Answer::Refused(refusal))?;
@@ -37,7 +37,7 @@ fn accepted_setup(
     answers: &[Answer],
     stop: Option<Refusal>,
 ) -> Result<Vec<Answer>, AllocError>
-    ensures { IfOk result (λ v. v.items ≡ Answer.Ok ∷ (answers.now ++ refused-by stop)) }
+    ensures { IfOk result (λ v. v.items ≡ Answer.Ok ∷ (answers.now ++ refused_by stop)) }
 {
     let mut outcomes = Vec::new(heap);
     outcomes.push(Answer::Ok)?;
@@ -53,7 +53,7 @@ fn outcomes_after(
     rest: &[Part<'_>],
     stop: Option<Refusal>,
 ) -> Result<Vec<Answer>, AllocError>
-    ensures { IfOk result (λ v. (v.items ≡ outcomes-from setup (map seen rest.now) (refused-by stop)) × Lawful-from setup (map seen rest.now)) }
+    ensures { IfOk result (λ v. (v.items ≡ outcomes_from setup (map seen rest.now) (refused_by stop)) × LawfulFrom setup (map seen rest.now)) }
 {
     let Record::Setup {
         scheme,
@@ -76,7 +76,7 @@ pub fn outcomes_of(
     parts: &[Part<'_>],
     stop: Option<Refusal>,
 ) -> Result<Vec<Answer>, AllocError>
-    ensures { IfOk result (λ v. (v.items ≡ outcomes (map seen parts.now) (refused-by stop)) × Lawfully (map seen parts.now)) }
+    ensures { IfOk result (λ v. (v.items ≡ outcomes (map seen parts.now) (refused_by stop)) × Lawfully (map seen parts.now)) }
 {
     if let Some((setup, rest)) = parts.split_first() {
         return outcomes_after(heap, setup.content, rest, stop);

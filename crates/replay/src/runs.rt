@@ -1,9 +1,9 @@
 // The calls of a schedule, run on an index of their own.
 ghost use Rattle.std.specs.Prelude.{◌≡◌, true, false, map, length, IfOk, MatchOption};
-ghost use Rattle.marks.specs.Version.{version-state, version-new};
+ghost use Rattle.marks.specs.Version.{version_state, version_new};
 ghost use Rattle.list_law.specs.Making.{makes};
-ghost use Rattle.list_driver.specs.Asks.{ask-of};
-ghost use Rattle.list_cells.specs.Views.{cell-of};
+ghost use Rattle.list_driver.specs.Asks.{ask_of};
+ghost use Rattle.list_cells.specs.Views.{cell_of};
 ghost use Rattle.replay.specs.Answers.{blank};
 ghost use Rattle.replay.specs.Runs.{Over, Answered};
 
@@ -22,7 +22,7 @@ use std::alloc::{AllocError, Global};
 
 // So many cells, with nothing in them.
 fn blank_cells(heap: Global, count: u16) -> Result<Vec<Cell<Sector>>, AllocError>
-    ensures { IfOk result (λ v. map cell-of v.items ≡ blank count) }
+    ensures { IfOk result (λ v. map cell_of v.items ≡ blank count) }
 {
     let mut cells = Vec::with_capacity(heap, count as usize)?;
     for _ in 0..count {
@@ -45,7 +45,7 @@ fn run_over<S: Scheme>(
 ) -> bool
     requires { length asks.now ≡ length answers.old }
     ensures sizes { result ≡ makes (length cells.old) 16 window }
-    ensures ran { result ≡ true → Over S.Scheme.table S.Scheme.strict S.Scheme.acts (map cell-of cells.old) window scheme.old (map ask-of asks.now) answers.new }
+    ensures ran { result ≡ true → Over S.Scheme.table S.Scheme.strict S.Scheme.acts (map cell_of cells.old) window scheme.old (map ask_of asks.now) answers.new }
 {
     let mut rows = [Row { doing: Doing::Away }; 16];
     let mut anchor = Anchor {
@@ -78,7 +78,7 @@ fn answers_over<S: Scheme>(
     window: u8,
     asks: &[Ask<Sector>],
 ) -> Result<Option<Vec<Answer>>, AllocError>
-    ensures { IfOk result (λ o. MatchOption o (makes count 16 window ≡ false) (λ v. (makes count 16 window ≡ true) × Over S.Scheme.table S.Scheme.strict S.Scheme.acts (blank count) window scheme.old (map ask-of asks.now) v.items)) }
+    ensures { IfOk result (λ o. MatchOption o (makes count 16 window ≡ false) (λ v. (makes count 16 window ≡ true) × Over S.Scheme.table S.Scheme.strict S.Scheme.acts (blank count) window scheme.old (map ask_of asks.now) v.items)) }
 {
     let mut cells = blank_cells(heap, count)?;
     let mut answers = vec![in heap; Answer::Ok; asks.len()]?;
@@ -102,7 +102,7 @@ fn answers_full(
     window: u8,
     asks: &[Ask<Sector>],
 ) -> Result<Option<Vec<Answer>>, AllocError>
-    ensures { IfOk result (λ o. MatchOption o (makes count 16 window ≡ false) (λ v. Answered SchemeName.Full count window (map ask-of asks.now) v.items)) }
+    ensures { IfOk result (λ o. MatchOption o (makes count 16 window ≡ false) (λ v. Answered SchemeName.Full count window (map ask_of asks.now) v.items)) }
 {
     answers_over(heap, &mut Full::new(), count, window, asks)
 }
@@ -114,14 +114,14 @@ fn answers_owner(
     window: u8,
     asks: &[Ask<Sector>],
 ) -> Result<Option<Vec<Answer>>, AllocError>
-    ensures { IfOk result (λ o. MatchOption o (makes count 16 window ≡ false) (λ v. Answered SchemeName.Owner count window (map ask-of asks.now) v.items)) }
+    ensures { IfOk result (λ o. MatchOption o (makes count 16 window ≡ false) (λ v. Answered SchemeName.Owner count window (map ask_of asks.now) v.items)) }
 {
     answers_over(heap, &mut Owner::new(), count, window, asks)
 }
 
 // The counters of a replay start at 0.
 fn version_from_zero() -> Version
-    ensures { version-state result.kept ≡ version-new 0 }
+    ensures { version_state result.kept ≡ version_new 0 }
 {
     Version::new(0)
 }
@@ -133,7 +133,7 @@ fn answers_version(
     window: u8,
     asks: &[Ask<Sector>],
 ) -> Result<Option<Vec<Answer>>, AllocError>
-    ensures { IfOk result (λ o. MatchOption o (makes count 16 window ≡ false) (λ v. Answered SchemeName.Version count window (map ask-of asks.now) v.items)) }
+    ensures { IfOk result (λ o. MatchOption o (makes count 16 window ≡ false) (λ v. Answered SchemeName.Version count window (map ask_of asks.now) v.items)) }
 {
     answers_over(heap, &mut version_from_zero(), count, window, asks)
 }
@@ -146,7 +146,7 @@ pub fn answers_by(
     window: u8,
     asks: &[Ask<Sector>],
 ) -> Result<Option<Vec<Answer>>, AllocError>
-    ensures { IfOk result (λ o. MatchOption o (makes count 16 window ≡ false) (λ v. Answered name count window (map ask-of asks.now) v.items)) }
+    ensures { IfOk result (λ o. MatchOption o (makes count 16 window ≡ false) (λ v. Answered name count window (map ask_of asks.now) v.items)) }
 {
     match name {
         SchemeName::Full => answers_full(heap, count, window, asks),

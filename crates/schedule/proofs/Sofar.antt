@@ -10,15 +10,15 @@ use Rattle.schedule.specs.declared.reader.Part.{Part}
 use Rattle.schedule.specs.declared.reader.Reader.{Reader}
 use Rattle.schedule.specs.declared.reader.Outcome.TheVariants.{Handed, Ended, Refused}
 use Rattle.schedule.specs.declared.contents.Contents.{Contents}
-use Rattle.schedule.specs.Reading.{Entry, entry, Reading, handed, ended, malformed, next_of, reading, outcome, due, content-due, left_after, first-after, Asked, open-refusal}
-use Rattle.schedule.specs.Schedules.{listing, read_more, read-on, read_all, still, Bytes, Stops}
-use Rattle.schedule.specs.Whole.{seen, stop-number, entries-of, refusal-of, stop-of, Holds}
-use Rattle.schedule.proofs.Askings.{next-handed}
-use Rattle.schedule.proofs.Trips.{nothing-lost}
+use Rattle.schedule.specs.Reading.{Entry, entry, Reading, handed, ended, malformed, next_of, reading, outcome, due, content_due, left_after, first_after, Asked, open_refusal}
+use Rattle.schedule.specs.Schedules.{listing, read_more, read_on, read_all, still, Bytes, Stops}
+use Rattle.schedule.specs.Whole.{seen, stop_number, entries_of, refusal_of, stop_of, Holds}
+use Rattle.schedule.proofs.Askings.{next_handed}
+use Rattle.schedule.proofs.Trips.{nothing_lost}
 
 -- the elements of a slice of u8 are bytes
-pub bytes-typed : (bytes : List ℕ) → ((i : ℕ) → Fits w8 (get_or bytes i 0)) → Bytes bytes
-bytes-typed bytes typed = All-from_get_or (λ b. b < 256) bytes 0 (λ i h. (typed i).fits)
+pub bytes_typed : (bytes : List ℕ) → ((i : ℕ) → Fits w8 (get_or bytes i 0)) → Bytes bytes
+bytes_typed bytes typed = All-from_get_or (λ b. b < 256) bytes 0 (λ i h. (typed i).fits)
 
 -- what the outcome of an asking says of the definition's
 pub record Gave (before : Reader) (p : Part) (after : Reader) : Type 0 where
@@ -29,7 +29,7 @@ pub record Gave (before : Reader) (p : Part) (after : Reader) : Type 0 where
 pub gave : (before : Reader) (p : Part) (after : Reader) → Asked before (Handed p) after → Gave before p after
 gave before p after a = go (reading before) refl a.value a.content a.rest a.first
   where
-    go : (x : Reading) → reading before ≡ x → outcome (Handed p) ≡ due x → Some p.content ≡ content-due x → after.rest.now ≡ left_after x before.rest.now → after.first ≡ first-after x before.first → Gave before p after
+    go : (x : Reading) → reading before ≡ x → outcome (Handed p) ≡ due x → Some p.content ≡ content_due x → after.rest.now ≡ left_after x before.rest.now → after.first ≡ first_after x before.first → Gave before p after
     go (handed e left) is v c r f =
         let vs : ◌≡◌ {A = List ℕ} (p.offset ∷ p.bytes.now) (e.offset ∷ e.bytes) = ap (λ (k : Case). k.values) v in
         let offset : p.offset ≡ e.offset = cc in
@@ -39,16 +39,16 @@ gave before p after a = go (reading before) refl a.value a.content a.rest a.firs
     go ended is v c r f = let z : ◌≡◌ {A = ℕ} 0 1 = ap (λ (k : Case). k.number) v in absurd (omega arith)
     go malformed is v c r f = let z : ◌≡◌ {A = ℕ} 0 2 = ap (λ (k : Case). k.number) v in absurd (omega arith)
 
-pub gave-end : (before : Reader) (after : Reader) → Asked before Ended after → reading before ≡ ended
-gave-end before after a = go (reading before) refl a.value
+pub gave_end : (before : Reader) (after : Reader) → Asked before Ended after → reading before ≡ ended
+gave_end before after a = go (reading before) refl a.value
   where
     go : (x : Reading) → reading before ≡ x → outcome Ended ≡ due x → reading before ≡ ended
     go (handed e left) is v = let z : ◌≡◌ {A = ℕ} 1 0 = ap (λ (k : Case). k.number) v in absurd (omega arith)
     go ended is v = is
     go malformed is v = let z : ◌≡◌ {A = ℕ} 1 2 = ap (λ (k : Case). k.number) v in absurd (omega arith)
 
-pub gave-refusal : (before : Reader) (r : Refusal) (after : Reader) → Asked before (Refused r) after → (reading before ≡ malformed) × ((refusal r).number ≡ 11)
-gave-refusal before r after a = go (reading before) refl a.value
+pub gave_refusal : (before : Reader) (r : Refusal) (after : Reader) → Asked before (Refused r) after → (reading before ≡ malformed) × ((refusal r).number ≡ 11)
+gave_refusal before r after a = go (reading before) refl a.value
   where
     go : (x : Reading) → reading before ≡ x → outcome (Refused r) ≡ due x → (reading before ≡ malformed) × ((refusal r).number ≡ 11)
     go (handed e left) is v = let z : ◌≡◌ {A = ℕ} 2 0 = ap (λ (k : Case). k.number) v in absurd (omega arith)
@@ -63,35 +63,35 @@ pub record Sofar (bytes : List ℕ) (es : List Entry) (reader : Reader) : Type 0
   pub first : reader.first ≡ still true es
   pub askings : ℕ
   pub enough : length reader.rest.now ≤ askings
-  pub whole : read_all bytes ≡ listing (es ++ (read-on askings reader.first reader.total reader.rest.now).entries) (read-on askings reader.first reader.total reader.rest.now).rest
+  pub whole : read_all bytes ≡ listing (es ++ (read_on askings reader.first reader.total reader.rest.now).entries) (read_on askings reader.first reader.total reader.rest.now).rest
 
 still_after : (es : List Entry) (e : Entry) → still true (es ++ e ∷ []) ≡ false
 still_after [] e = refl
 still_after (x ∷ es) e = refl
 
 -- no record so far
-pub sofar-none : (bytes : List ℕ) (reader : Reader) → bytes ≡ 1 ∷ reader.rest.now → reader.total ≡ length bytes → reader.first ≡ true → Sofar bytes [] reader
-sofar-none bytes reader is total first = record {
+pub sofar_none : (bytes : List ℕ) (reader : Reader) → bytes ≡ 1 ∷ reader.rest.now → reader.total ≡ length bytes → reader.first ≡ true → Sofar bytes [] reader
+sofar_none bytes reader is total first = record {
   total = total;
   first = first;
   askings = length (1 ∷ reader.rest.now);
   enough = omega arith;
-  whole = ap read_all is ∙ (λ i. read-on (length (1 ∷ reader.rest.now)) (sym first i) (sym (total ∙ ap length is) i) reader.rest.now);
+  whole = ap read_all is ∙ (λ i. read_on (length (1 ∷ reader.rest.now)) (sym first i) (sym (total ∙ ap length is) i) reader.rest.now);
 }
 
 -- one record more
-pub sofar-more : (bytes : List ℕ) (es : List Entry) (before : Reader) (p : Part) (after : Reader) → Sofar bytes es before → Gave before p after → Sofar bytes (es ++ seen p ∷ []) after
-unfolding read-on
-sofar-more bytes es before p after s g = go s.askings s.enough s.whole
+pub sofar_more : (bytes : List ℕ) (es : List Entry) (before : Reader) (p : Part) (after : Reader) → Sofar bytes es before → Gave before p after → Sofar bytes (es ++ seen p ∷ []) after
+unfolding read_on
+sofar_more bytes es before p after s g = go s.askings s.enough s.whole
   where
     shorter : length after.rest.now < length before.rest.now
-    shorter = omega (arith, (next-handed before.first before.total before.rest.now (seen p) after.rest.now g.is).shorter)
+    shorter = omega (arith, (next_handed before.first before.total before.rest.now (seen p) after.rest.now g.is).shorter)
 
-    go : (n : ℕ) → length before.rest.now ≤ n → read_all bytes ≡ listing (es ++ (read-on n before.first before.total before.rest.now).entries) (read-on n before.first before.total before.rest.now).rest → Sofar bytes (es ++ seen p ∷ []) after
+    go : (n : ℕ) → length before.rest.now ≤ n → read_all bytes ≡ listing (es ++ (read_on n before.first before.total before.rest.now).entries) (read_on n before.first before.total before.rest.now).rest → Sofar bytes (es ++ seen p ∷ []) after
     go zero h w = absurd (omega (arith, shorter))
     go (suc n) h w =
-        let on = read-on n after.first after.total after.rest.now in
-        let read : read-on (suc n) before.first before.total before.rest.now ≡ listing (seen p ∷ on.entries) on.rest = ap (read_more (read-on n false before.total) before.rest.now) g.is ∙ (λ i. listing (seen p ∷ (read-on n (sym g.first i) (sym g.total i) after.rest.now).entries) (read-on n (sym g.first i) (sym g.total i) after.rest.now).rest) in
+        let on = read_on n after.first after.total after.rest.now in
+        let read : read_on (suc n) before.first before.total before.rest.now ≡ listing (seen p ∷ on.entries) on.rest = ap (read_more (read_on n false before.total) before.rest.now) g.is ∙ (λ i. listing (seen p ∷ (read_on n (sym g.first i) (sym g.total i) after.rest.now).entries) (read_on n (sym g.first i) (sym g.total i) after.rest.now).rest) in
         record {
           total = g.total ∙ s.total;
           first = g.first ∙ sym (still_after es (seen p));
@@ -101,30 +101,30 @@ sofar-more bytes es before p after s g = go s.askings s.enough s.whole
         }
 
 -- where no record is handed out, the records so far are all, and the bytes left are where reading stops
-stopped : (n : ℕ) (first : Bool) (total : ℕ) (rest : List ℕ) → Stops (next_of first total rest) → read-on n first total rest ≡ listing [] rest
-unfolding read-on
+stopped : (n : ℕ) (first : Bool) (total : ℕ) (rest : List ℕ) → Stops (next_of first total rest) → read_on n first total rest ≡ listing [] rest
+unfolding read_on
 stopped zero first total rest s = refl
 stopped (suc n) first total rest s =
-    elim (next_of first total rest) as (λ a. Stops a → read_more (read-on n false total) rest a ≡ listing [] rest) [
+    elim (next_of first total rest) as (λ a. Stops a → read_more (read_on n false total) rest a ≡ listing [] rest) [
       | handed e left ↦ λ s. absurd s
       | ended ↦ λ s. refl
       | malformed ↦ λ s. refl
     ] s
 
-pub sofar-all : (bytes : List ℕ) (es : List Entry) (reader : Reader) → Sofar bytes es reader → Stops (reading reader) → read_all bytes ≡ listing es reader.rest.now
-sofar-all bytes es reader s stops =
+pub sofar_all : (bytes : List ℕ) (es : List Entry) (reader : Reader) → Sofar bytes es reader → Stops (reading reader) → read_all bytes ≡ listing es reader.rest.now
+sofar_all bytes es reader s stops =
     let none = stopped s.askings reader.first reader.total reader.rest.now stops in
     s.whole ∙ (λ i. listing (es ++ (none i).entries) (none i).rest) ∙ ap (λ l. listing l reader.rest.now) (append-nil es)
 
 -- then the contents are those of the bytes
-pub holds-all : (bytes : List ℕ) (c : Contents) (reader : Reader) → open-refusal bytes ≡ None → Bytes bytes → Sofar bytes (map seen (vec_items c.parts)) reader → Stops (reading reader) → option_map (λ (r : Refusal). (refusal r).number) c.refusal ≡ stop-number (reading reader) → c.stop ≡ reader.total - length reader.rest.now → Holds bytes c
-holds-all bytes c reader opened all s stops refused at =
+pub holds_all : (bytes : List ℕ) (c : Contents) (reader : Reader) → open_refusal bytes ≡ None → Bytes bytes → Sofar bytes (map seen (vec_items c.parts)) reader → Stops (reading reader) → option_map (λ (r : Refusal). (refusal r).number) c.refusal ≡ stop_number (reading reader) → c.stop ≡ reader.total - length reader.rest.now → Holds bytes c
+holds_all bytes c reader opened all s stops refused at =
     let es = map seen (vec_items c.parts) in
-    let is = sofar-all bytes es reader s stops in
+    let is = sofar_all bytes es reader s stops in
     let asked : next_of reader.first reader.total reader.rest.now ≡ next_of (still true (read_all bytes).entries) (length bytes) (read_all bytes).rest = (λ i. next_of (s.first i) (s.total i) reader.rest.now) ∙ (λ i. next_of (still true (sym is i).entries) (length bytes) (sym is i).rest) in
     record {
-      parts = ap (λ l. l.entries) (sym is) ∙ sym (ap (entries-of bytes) opened);
-      refused = refused ∙ ap stop-number asked ∙ sym (ap (refusal-of bytes) opened);
-      stop = at ∙ (λ i. s.total i - length (sym is i).rest) ∙ sym (ap (stop-of bytes) opened);
-      accounted = nothing-lost bytes all;
+      parts = ap (λ l. l.entries) (sym is) ∙ sym (ap (entries_of bytes) opened);
+      refused = refused ∙ ap stop_number asked ∙ sym (ap (refusal_of bytes) opened);
+      stop = at ∙ (λ i. s.total i - length (sym is i).rest) ∙ sym (ap (stop_of bytes) opened);
+      accounted = nothing_lost bytes all;
     }

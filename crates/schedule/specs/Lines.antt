@@ -13,5 +13,5 @@ lines_from n [] = []
 lines_from n (a ∷ rest) = line_of n a ++ lines_from (suc n) rest
 
 -- the line of a refusal, by its number
-abbrev pub refused-line : ℕ → ℕ → List ℕ
-refused-line n refusal = decimal n ++ 32 ∷ (codes "refused" ++ (spaced (refusal ∷ []) ++ 10 ∷ []))
+abbrev pub refused_line : ℕ → ℕ → List ℕ
+refused_line n refusal = decimal n ++ 32 ∷ (codes "refused" ++ (spaced (refusal ∷ []) ++ 10 ∷ []))

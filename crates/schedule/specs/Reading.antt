@@ -6,7 +6,7 @@ use Rattle.records.specs.declared.record.Record.{Record}
 use Rattle.schedule.specs.declared.reader.Reader.{Reader}
 use Rattle.schedule.specs.declared.reader.Outcome.{Outcome}
 use Rattle.schedule.specs.declared.reader.Outcome.TheVariants.{Handed, Ended, Refused}
-use Rattle.records.specs.Records.{is-setup, from-two, decoded}
+use Rattle.records.specs.Records.{is_setup, from_two, decoded}
 
 -- a record as it is handed out: where its call byte stands, its bytes from there on, and what they say
 pub record Entry : Type 0 where
@@ -24,32 +24,32 @@ pub data Reading : Type 0 where
   malformed : Reading
 
 -- the number by which bytes are not opened, if there is one: first more than 60,000 bytes, then no first byte 1
-abbrev pub no-first-byte : List ℕ → Option ℕ
-no-first-byte [] = Some 10
-no-first-byte (b ∷ bs) = cond (b == 1) None (Some 10)
+abbrev pub no_first_byte : List ℕ → Option ℕ
+no_first_byte [] = Some 10
+no_first_byte (b ∷ bs) = cond (b == 1) None (Some 10)
 
-abbrev pub open-refusal : List ℕ → Option ℕ
-open-refusal bytes = cond (nat_lt 60000 (length bytes)) (Some 9) (no-first-byte bytes)
+abbrev pub open_refusal : List ℕ → Option ℕ
+open_refusal bytes = cond (nat_lt 60000 (length bytes)) (Some 9) (no_first_byte bytes)
 
 -- the first record is a setup, and no other is
 abbrev pub in_place : Bool → Record → Bool
-in_place true r = is-setup r
-in_place false r = not (is-setup r)
+in_place true r = is_setup r
+in_place false r = not (is_setup r)
 
 -- a record, if it is one that may stand there
-abbrev pub if-in-place : Bool → Option Record → Option Record
-if-in-place first None = None
-if-in-place first (Some r) = cond (in_place first r) (Some r) None
+abbrev pub if_in_place : Bool → Option Record → Option Record
+if_in_place first None = None
+if_in_place first (Some r) = cond (in_place first r) (Some r) None
 
 -- the record that bytes say, from the call byte on, if it may stand there
-abbrev pub content-at : Bool → List ℕ → Option Record
-content-at first bytes = if-in-place first (decoded bytes)
+abbrev pub content_at : Bool → List ℕ → Option Record
+content_at first bytes = if_in_place first (decoded bytes)
 
 -- the length in two bytes cuts what follows it into the bytes of a record and what is left, if there are so many
 abbrev pub cut_of : List ℕ → Option (List ℕ × List ℕ)
 cut_of [] = None
 cut_of (high ∷ []) = None
-cut_of (high ∷ low ∷ bytes) = cond (nat_lt (length bytes) (from-two high low)) None (Some (take (from-two high low) bytes, drop (from-two high low) bytes))
+cut_of (high ∷ low ∷ bytes) = cond (nat_lt (length bytes) (from_two high low)) None (Some (take (from_two high low) bytes, drop (from_two high low) bytes))
 
 -- what is handed out of a schedule of that many bytes in all
 abbrev pub placed : ℕ → List ℕ → List ℕ → Option Record → Reading
@@ -58,7 +58,7 @@ placed total bytes left (Some r) = handed (entry (total - length left - length b
 
 abbrev pub parted : Bool → ℕ → Option (List ℕ × List ℕ) → Reading
 parted first total None = malformed
-parted first total (Some p) = placed total p.0 p.1 (content-at first p.0)
+parted first total (Some p) = placed total p.0 p.1 (content_at first p.0)
 
 -- one asking, at the first record or at a later one, of a schedule of that many bytes in all, with those bytes left
 abbrev pub next_of : Bool → ℕ → List ℕ → Reading
@@ -82,15 +82,15 @@ due ended = told 1 (codes "end") []
 due malformed = told 2 (codes "refused") (11 ∷ [])
 
 -- what the record says that is handed out, if one is
-abbrev pub content-of : Outcome → Option Record
-content-of (Handed p) = Some p.content
-content-of Ended = None
-content-of (Refused r) = None
+abbrev pub content_of : Outcome → Option Record
+content_of (Handed p) = Some p.content
+content_of Ended = None
+content_of (Refused r) = None
 
-abbrev pub content-due : Reading → Option Record
-content-due (handed e left) = Some e.content
-content-due ended = None
-content-due malformed = None
+abbrev pub content_due : Reading → Option Record
+content_due (handed e left) = Some e.content
+content_due ended = None
+content_due malformed = None
 
 -- what is left afterwards, and whether the first record is still to come: only a record that is handed out moves the reader
 abbrev pub left_after : Reading → List ℕ → List ℕ
@@ -98,15 +98,15 @@ left_after (handed e left) rest = left
 left_after ended rest = rest
 left_after malformed rest = rest
 
-abbrev pub first-after : Reading → Bool → Bool
-first-after (handed e left) first = false
-first-after ended first = first
-first-after malformed first = first
+abbrev pub first_after : Reading → Bool → Bool
+first_after (handed e left) first = false
+first_after ended first = first
+first_after malformed first = first
 
 -- a reader asked once: the outcome, and the reader afterwards
 pub record Asked (before : Reader) (r : Outcome) (after : Reader) : Type 0 where
   pub value : outcome r ≡ due (reading before)
-  pub content : content-of r ≡ content-due (reading before)
+  pub content : content_of r ≡ content_due (reading before)
   pub rest : after.rest.now ≡ left_after (reading before) before.rest.now
   pub total : after.total ≡ before.total
-  pub first : after.first ≡ first-after (reading before) before.first
+  pub first : after.first ≡ first_after (reading before) before.first

@@ -3,7 +3,7 @@ use Rattle.std.specs.Prelude.{◌≡◌, ℕ, zero, suc, ◌+◌, ◌*◌, ◌<�
 use Rattle.std.specs.List.{flat_map, AllByRecursion}
 use Rattle.records.specs.declared.record.Record.{Record}
 use Rattle.records.specs.Records.{fields, written, Fits}
-use Rattle.schedule.specs.Reading.{Entry, entry, Reading, handed, ended, malformed, in_place, next_of, open-refusal}
+use Rattle.schedule.specs.Reading.{Entry, entry, Reading, handed, ended, malformed, in_place, next_of, open_refusal}
 
 -- what is read of a schedule: the records one after another, and the bytes at which reading stopped
 pub record Listing : Type 0 where
@@ -20,14 +20,14 @@ read_more on rest ended = listing [] rest
 read_more on rest malformed = listing [] rest
 
 -- at most so many askings, of a schedule of that many bytes in all, with those bytes left
-unfoldable pub read-on : ℕ → Bool → ℕ → List ℕ → Listing
-read-on zero first total rest = listing [] rest
-read-on (suc n) first total rest = read_more (read-on n false total) rest (next_of first total rest)
+unfoldable pub read_on : ℕ → Bool → ℕ → List ℕ → Listing
+read_on zero first total rest = listing [] rest
+read_on (suc n) first total rest = read_more (read_on n false total) rest (next_of first total rest)
 
 -- what so many askings read of a schedule, after its first byte
 abbrev pub asked : ℕ → List ℕ → Listing
 asked n [] = listing [] []
-asked n (b ∷ rest) = read-on n true (length (b ∷ rest)) rest
+asked n (b ∷ rest) = read_on n true (length (b ∷ rest)) rest
 
 -- all that is read of a schedule: it has fewer records than bytes
 abbrev pub read_all : List ℕ → Listing
@@ -53,16 +53,16 @@ still first [] = first
 still first (x ∷ xs) = false
 
 -- no record that can be written and may stand there begins these bytes
-abbrev pub Begins-none : Bool → List ℕ → Type 0
-Begins-none first rest = (r : Record) (more : List ℕ) → Fits r → in_place first r ≡ true → rest ≢ written r ++ more
+abbrev pub BeginsNone : Bool → List ℕ → Type 0
+BeginsNone first rest = (r : Record) (more : List ℕ) → Fits r → in_place first r ≡ true → rest ≢ written r ++ more
 
 -- the numbers that a byte can be
 abbrev pub Bytes : List ℕ → Type 0
 Bytes = AllByRecursion (λ b. b < 256)
 
 -- what is written is bytes, which are opened and read back: exactly those records, each at its offset, and then the end
-abbrev pub Round-trip : ℕ → Type 0
-Round-trip limit = (rs : List Record) → Lawful true rs → length (schedule rs) ≤ limit → Bytes (schedule rs) × (open-refusal (schedule rs) ≡ None) × (read_all (schedule rs) ≡ listing (entries_at 1 rs) [])
+abbrev pub RoundTrip : ℕ → Type 0
+RoundTrip limit = (rs : List Record) → Lawful true rs → length (schedule rs) ≤ limit → Bytes (schedule rs) × (open_refusal (schedule rs) ≡ None) × (read_all (schedule rs) ≡ listing (entries_at 1 rs) [])
 
 -- bytes that are opened are the first byte, the written form of the records handed out, and then nothing or a rest that
 -- begins no record: nothing is skipped, and nothing is invented
@@ -70,11 +70,11 @@ pub record Accounted (bytes : List ℕ) : Type 0 where
   pub records : List Record
   pub lawful : Lawful true records
   pub entries : (read_all bytes).entries ≡ entries_at 1 records
-  pub bytes-are : bytes ≡ schedule records ++ (read_all bytes).rest
-  pub stops : ((read_all bytes).rest ≡ []) ⊎ Begins-none (still true records) (read_all bytes).rest
+  pub bytes_are : bytes ≡ schedule records ++ (read_all bytes).rest
+  pub stops : ((read_all bytes).rest ≡ []) ⊎ BeginsNone (still true records) (read_all bytes).rest
 
-abbrev pub Nothing-lost : ℕ → Type 0
-Nothing-lost bound = (bytes : List ℕ) → AllByRecursion (λ b. b < bound) bytes → open-refusal bytes ≡ None → Accounted bytes
+abbrev pub NothingLost : ℕ → Type 0
+NothingLost bound = (bytes : List ℕ) → AllByRecursion (λ b. b < bound) bytes → open_refusal bytes ≡ None → Accounted bytes
 
 -- no record is handed out
 abbrev pub Stops : Reading → Type 0
@@ -83,9 +83,9 @@ Stops ended = Unit {0}
 Stops malformed = Unit {0}
 
 -- the asking after these hands out no record
-abbrev pub Stops-after : List ℕ → Listing → Type 0
-Stops-after bytes l = Stops (next_of (still true l.entries) (length bytes) l.rest)
+abbrev pub StopsAfter : List ℕ → Listing → Type 0
+StopsAfter bytes l = Stops (next_of (still true l.entries) (length bytes) l.rest)
 
 -- reading ends: one asking for each so many bytes is enough
-abbrev pub Reading-ends : ℕ → Type 0
-Reading-ends each = (bytes : List ℕ) (n : ℕ) → open-refusal bytes ≡ None → length bytes ≤ each * n → Stops-after bytes (asked n bytes)
+abbrev pub ReadingEnds : ℕ → Type 0
+ReadingEnds each = (bytes : List ℕ) (n : ℕ) → open_refusal bytes ≡ None → length bytes ≤ each * n → StopsAfter bytes (asked n bytes)

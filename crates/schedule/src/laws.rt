@@ -1,9 +1,9 @@
 // The laws of a schedule, over the definitions by which the reader is proved.
-ghost use Rattle.schedule.specs.Schedules.{Round-trip, Nothing-lost, Reading-ends};
+ghost use Rattle.schedule.specs.Schedules.{RoundTrip, NothingLost, ReadingEnds};
 
 // What is written in at most 60,000 bytes is read back: exactly those records, each at its offset, and then the end.
 pub fn round_trip() -> u8
-    ensures { Round-trip 60000 }
+    ensures { RoundTrip 60000 }
 {
     laws_hold();
     0
@@ -11,7 +11,7 @@ pub fn round_trip() -> u8
 
 // Bytes that are opened are the first byte, the records handed out as they are written, and nothing or a rest that begins no record.
 pub fn nothing_lost() -> u8
-    ensures { Nothing-lost 256 }
+    ensures { NothingLost 256 }
 {
     laws_hold();
     0
@@ -19,7 +19,7 @@ pub fn nothing_lost() -> u8
 
 // Reading ends: no schedule has more records than one for each four bytes.
 pub fn reading_ends() -> u8
-    ensures { Reading-ends 4 }
+    ensures { ReadingEnds 4 }
 {
     laws_hold();
     0
@@ -27,7 +27,7 @@ pub fn reading_ends() -> u8
 
 // Where the three are proved.
 fn laws_hold()
-    ensures round_trip { Round-trip 60000 }
-    ensures nothing_lost { Nothing-lost 256 }
-    ensures reading_ends { Reading-ends 4 }
+    ensures round_trip { RoundTrip 60000 }
+    ensures nothing_lost { NothingLost 256 }
+    ensures reading_ends { ReadingEnds 4 }
 {}

@@ -1,8 +1,8 @@
 // The reader of a schedule, over bytes that it borrows.
 ghost use Rattle.std.specs.Prelude.{◌≡◌, ◌-◌, true, false, ◌∷◌, length, Some, None, MatchOption, MatchResult, nat_lt};
 ghost use Rattle.basis.specs.Refusals.{refusal};
-ghost use Rattle.records.specs.Records.{from-two};
-ghost use Rattle.schedule.specs.Reading.{open-refusal, cut_of, content-at, Asked};
+ghost use Rattle.records.specs.Records.{from_two};
+ghost use Rattle.schedule.specs.Reading.{open_refusal, cut_of, content_at, Asked};
 
 use basis::refusal::Refusal;
 use records::record::{Record, decode};
@@ -40,7 +40,7 @@ fn too_long(total: usize) -> bool
 
 // The length that stands in front of a record, in two bytes.
 fn length_of(high: u8, low: u8) -> usize
-    ensures { result ≡ from-two high low }
+    ensures { result ≡ from_two high low }
 {
     usize::from(u16::from_be_bytes([high, low]))
 }
@@ -61,7 +61,7 @@ fn cut(rest: &[u8]) -> Option<(&[u8], &[u8])>
 
 // What a record says, if it may stand there: the first is a setup, and no other is.
 fn content_at(first: bool, bytes: &[u8]) -> Option<Record>
-    ensures { result ≡ content-at first bytes.now }
+    ensures { result ≡ content_at first bytes.now }
 {
     let content = decode(bytes)?;
     if content.is_setup() == first {
@@ -74,7 +74,7 @@ fn content_at(first: bool, bytes: &[u8]) -> Option<Record>
 impl<'a> Reader<'a> {
     // A reader at the first record; refused are more than 60,000 bytes, and then a first byte that is not there or not 1.
     pub fn open(bytes: &'a [u8]) -> Result<Reader<'a>, Refusal>
-        ensures { MatchResult result (λ reader. (open-refusal bytes.now ≡ None) × (bytes.now ≡ 1 ∷ reader.rest.now) × (reader.total ≡ length bytes.now) × (reader.first ≡ true)) (λ e. open-refusal bytes.now ≡ Some (refusal e).number) }
+        ensures { MatchResult result (λ reader. (open_refusal bytes.now ≡ None) × (bytes.now ≡ 1 ∷ reader.rest.now) × (reader.total ≡ length bytes.now) × (reader.first ≡ true)) (λ e. open_refusal bytes.now ≡ Some (refusal e).number) }
     {
         let total = bytes.len();
         if too_long(total) {

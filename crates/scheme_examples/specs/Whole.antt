@@ -4,24 +4,24 @@ use Rattle.std.specs.Prelude.{◌≡◌, List}
 use Rattle.marks.specs.Meaning.{Order, Along}
 use Rattle.marks.specs.Carried.{carried}
 use Rattle.marks.specs.declared.version.Version.{Version}
-use Rattle.marks.specs.Full.{full-state, full-act}
-use Rattle.marks.specs.Owner.{owner-state, owner-act}
-use Rattle.marks.specs.Version.{version-state, version-act}
+use Rattle.marks.specs.Full.{full_state, full_act}
+use Rattle.marks.specs.Owner.{owner_state, owner_act}
+use Rattle.marks.specs.Version.{version_state, version_act}
 
 -- two values of which the same is told are the same
-abbrev pub Tells-all : {X Y : Type 0} → (X → Y) → Type 0
-Tells-all {X} told = (a b : X) → told a ≡ told b → a ≡ b
+abbrev pub TellsAll : {X Y : Type 0} → (X → Y) → Type 0
+TellsAll {X} told = (a b : X) → told a ≡ told b → a ≡ b
 
-pub record States-tell-all : Type 0 where
-  pub full : Tells-all full-state
-  pub owner : Tells-all owner-state
-  pub version : Tells-all (λ (v : Version). version-state v.kept)
+pub record StatesTellAll : Type 0 where
+  pub full : TellsAll full_state
+  pub owner : TellsAll owner_state
+  pub version : TellsAll (λ (v : Version). version_state v.kept)
 
 -- a list of orders, carried out one after another by a scheme that acts by equation, leaves the state that is computed
 abbrev pub Computes : {X S : Type 0} → (X → S) → (Order → S → S) → Type 0
 Computes {X} state act = (os : List Order) (a b : X) → Along (λ o x y. state y ≡ act o (state x)) os a b → state b ≡ carried act os (state a)
 
-pub record Orders-compute : Type 0 where
-  pub full : Computes full-state full-act
-  pub owner : Computes owner-state owner-act
-  pub version : Computes (λ (v : Version). version-state v.kept) version-act
+pub record OrdersCompute : Type 0 where
+  pub full : Computes full_state full_act
+  pub owner : Computes owner_state owner_act
+  pub version : Computes (λ (v : Version). version_state v.kept) version_act

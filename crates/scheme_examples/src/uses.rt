@@ -2,10 +2,10 @@
 ghost use Rattle.std.specs.Prelude.{◌≡◌, true, [], ◌∷◌, if◌then◌else◌, Some, None, nat_eq};
 ghost use Rattle.marks.specs.Meaning.Order.{release, reserve};
 ghost use Rattle.marks.specs.Marks.{numbered};
-ghost use Rattle.marks.specs.Full.{full-state, full-act, full-get};
-ghost use Rattle.marks.specs.Owner.{owner-state, owner-act};
-ghost use Rattle.marks.specs.Version.{version-state, version-act};
-ghost use Rattle.marks.specs.Pair.{uses-second};
+ghost use Rattle.marks.specs.Full.{full_state, full_act, full_get};
+ghost use Rattle.marks.specs.Owner.{owner_state, owner_act};
+ghost use Rattle.marks.specs.Version.{version_state, version_act};
+ghost use Rattle.marks.specs.Pair.{uses_second};
 
 use crate::generic::{mark_beside_another, move_mark, reserve_and_revoke};
 use basis::bank_bit::BankBit;
@@ -46,32 +46,32 @@ pub fn revoked_at_each(
 }
 
 pub fn move_in_full(full: &mut Full, t: Seat, p: Place)
-    ensures { full-state full.new ≡ full-act (reserve t.number p.number) (full-act (release t.number) (full-state full.old)) }
+    ensures { full_state full.new ≡ full_act (reserve t.number p.number) (full_act (release t.number) (full_state full.old)) }
 {
     move_mark(full, t, p);
 }
 
 pub fn move_in_owner(owner: &mut Owner, t: Seat, p: Place)
-    ensures { owner-state owner.new ≡ owner-act (reserve t.number p.number) (owner-act (release t.number) (owner-state owner.old)) }
+    ensures { owner_state owner.new ≡ owner_act (reserve t.number p.number) (owner_act (release t.number) (owner_state owner.old)) }
 {
     move_mark(owner, t, p);
 }
 
 pub fn move_in_version(version: &mut Version, t: Seat, p: Place)
-    ensures { version-state version.new.kept ≡ version-act (reserve t.number p.number) (version-act (release t.number) (version-state version.old.kept)) }
+    ensures { version_state version.new.kept ≡ version_act (reserve t.number p.number) (version_act (release t.number) (version_state version.old.kept)) }
 {
     move_mark(version, t, p);
 }
 
 // In a pair of pairs: what the orders make of the bank that the seat does not use is nothing.
 pub fn move_in_nested(nested: &mut Nested, t: Seat, p: Place)
-    ensures { uses-second nested.old.bit.number t.number ≡ true → nested.new.first ≡ nested.old.first }
+    ensures { uses_second nested.old.bit.number t.number ≡ true → nested.new.first ≡ nested.old.first }
 {
     move_mark(nested, t, p);
 }
 
 pub fn beside_another_in_full(full: &mut Full, t: Seat, u: Seat, p: Place) -> Option<Place>
-    ensures { numbered result ≡ (if nat_eq t.number u.number then Some p.number else full-get (full-state full.old) t.number) }
+    ensures { numbered result ≡ (if nat_eq t.number u.number then Some p.number else full_get (full_state full.old) t.number) }
 {
     mark_beside_another(full, t, u, p)
 }

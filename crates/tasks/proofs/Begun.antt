@@ -5,7 +5,7 @@ use Rattle.basis.specs.declared.refusal.Refusal.TheVariants.{WrongSizes}
 use Rattle.basis.specs.declared.answer.Answer.{Answer}
 use Rattle.basis.specs.declared.answer.Answer.TheVariants.{Ok, Refused}
 use Rattle.keys.specs.declared.wear.Wear.{Wear}
-use Rattle.keys.specs.Wear.{wear-below}
+use Rattle.keys.specs.Wear.{wear_below}
 use Rattle.marks.specs.Meaning.{Table, Order}
 use Rattle.ledger.specs.Ledger.{join}
 use Rattle.std.proofs.lemmas.List.{length-map}
@@ -13,14 +13,14 @@ use Rattle.list_law.specs.Call.{State, Did}
 use Rattle.list_law.specs.Continued.{Continues}
 use Rattle.list_law.specs.Driven.{Driven}
 use Rattle.list_law.specs.Performed.{Ask}
-use Rattle.list_law.proofs.Driven.{driven-more}
+use Rattle.list_law.proofs.Driven.{driven_more}
 use Rattle.list_cells.specs.declared.cell.Cell.{Cell}
 use Rattle.list_cells.specs.declared.cell.Anchor.{Anchor}
-use Rattle.list_cells.specs.Views.{cell-of}
+use Rattle.list_cells.specs.Views.{cell_of}
 use Rattle.list_window.specs.declared.row.Row.{Row}
 use Rattle.list_window.specs.Rows.{row_of}
-use Rattle.list_window.specs.Applied.{state-of}
-use Rattle.list.specs.Calls.{call-of}
+use Rattle.list_window.specs.Applied.{state_of}
+use Rattle.list.specs.Calls.{call_of}
 use Rattle.tasks.specs.Stations.{joining}
 
 -- a making that was not refused was accepted
@@ -30,10 +30,10 @@ accepted false a is refuses = absurd (refuses WrongSizes is)
 
 -- an accepted join more, at level 0
 pub joins : {S : Type 0} {table : S → Table} {strict : Bool} {acts : Order → S → S → Type 0} {n w : ℕ} {start : State Wear S} {asks : List (Ask Wear)} {answers : List Answer} {s' : State Wear S} (t level : ℕ) (cells : List (Cell Wear)) (rows : List (Row Wear)) (anchor : Anchor) (m : S) → length cells ≡ n → length rows ≡ 16 → level ≡ 0
-    → Driven wear-below table strict acts n w start asks answers (state-of cells rows anchor m) → Did wear-below table strict acts (state-of cells rows anchor m) (call-of join t level cells rows) Ok s' → Continues wear-below table strict acts (state-of cells rows anchor m) (call-of join t level cells rows) Ok s'
-    → Driven wear-below table strict acts n w start (asks ++ joining t ∷ []) (answers ++ Ok ∷ []) s'
+    → Driven wear_below table strict acts n w start asks answers (state_of cells rows anchor m) → Did wear_below table strict acts (state_of cells rows anchor m) (call_of join t level cells rows) Ok s' → Continues wear_below table strict acts (state_of cells rows anchor m) (call_of join t level cells rows) Ok s'
+    → Driven wear_below table strict acts n w start (asks ++ joining t ∷ []) (answers ++ Ok ∷ []) s'
 joins {table = table} {strict = strict} {acts = acts} {n = n} {w = w} {start = start} {asks = asks} {answers = answers} {s' = s'} t level cells rows anchor m long sixteen low run did goes =
-    driven-more wear-below table strict acts n w start asks answers (state-of cells rows anchor m) (joining t) (call-of join t level cells rows) Ok s'
+    driven_more wear_below table strict acts n w start asks answers (state_of cells rows anchor m) (joining t) (call_of join t level cells rows) Ok s'
     (λ i. record { what = join; seat = t; level = low i; cells = long i; rows = sixteen i })
-    (λ i. record { what = join; seat = t; level = low i; cells = sym (length-map cells cell-of) i; rows = sym (length-map rows row_of) i })
+    (λ i. record { what = join; seat = t; level = low i; cells = sym (length-map cells cell_of) i; rows = sym (length-map rows row_of) i })
     run did goes

@@ -5,16 +5,16 @@ use Rattle.basis.specs.declared.refusal.Refusal.{Refusal}
 use Rattle.basis.specs.declared.answer.Answer.TheVariants.{Ok, Refused}
 use Rattle.basis.specs.declared.answer.Answer.{Answer}
 use Rattle.keys.specs.declared.wear.Wear.{Wear}
-use Rattle.keys.specs.Wear.{wear-below}
+use Rattle.keys.specs.Wear.{wear_below}
 use Rattle.marks.specs.Meaning.{Table, Order}
 use Rattle.ledger.specs.Ledger.{What, Call, join, leave}
 use Rattle.list_law.specs.Call.{State, Did}
 use Rattle.list_law.proofs.Lists.{clash}
 use Rattle.list_cells.specs.declared.cell.Cell as declared
-use Rattle.list_cells.specs.Views.{cell-of}
+use Rattle.list_cells.specs.Views.{cell_of}
 use Rattle.list.specs.declared.slip.Slip.{Slip}
 use Rattle.list.specs.Slips.{Held}
-use Rattle.list.proofs.Held.{stays-held}
+use Rattle.list.proofs.Held.{stays_held}
 use Rattle.tasks.specs.declared.station.Station.{Station}
 use Rattle.tasks.specs.declared.turn.Ask.{Ask}
 use Rattle.tasks.specs.declared.turn.Ask.TheVariants.{Begin, Step, Abandon}
@@ -22,25 +22,25 @@ use Rattle.tasks.specs.Turns.{asked, Called}
 use Rattle.tasks.specs.Stations.{state, Manned}
 
 -- as many cells, as the definitions see them
-pub as_long : {K : Type 0} (cells cells' : List (declared.Cell K)) → length cells' ≡ length cells → length (map cell-of cells') ≡ length (map cell-of cells)
-as_long cells cells' e = length-map cells' cell-of ∙ e ∙ sym (length-map cells cell-of)
+pub as_long : {K : Type 0} (cells cells' : List (declared.Cell K)) → length cells' ≡ length cells → length (map cell_of cells') ≡ length (map cell_of cells)
+as_long cells cells' e = length-map cells' cell_of ∙ e ∙ sym (length-map cells cell_of)
 
 -- a refusal is not an ok
-pub refused-apart : {q : Refusal} → Refused q ≡ Ok → ⊥
-refused-apart h = clash (cc)
+pub refused_apart : {q : Refusal} → Refused q ≡ Ok → ⊥
+refused_apart h = clash (cc)
 
 -- no join and no ask is a leave
 pub join_apart : {K : Type 0} → ◌≢◌ {A = What K} join leave
 join_apart h = clash (cc)
 
-pub asked-apart : (a : Ask) → asked a ≢ leave
-asked-apart (Begin k x) h = clash (cc)
-asked-apart Step h = clash (cc)
-asked-apart Abandon h = clash (cc)
+pub asked_apart : (a : Ask) → asked a ≢ leave
+asked_apart (Begin k x) h = clash (cc)
+asked_apart Step h = clash (cc)
+asked_apart Abandon h = clash (cc)
 
 -- both tasks are there, by the numbers of their seats
-pub manned-by : {S : Type 0} (d : Station S) (h k : ℕ) → d.host.seat ≡ h → d.cleaner.seat ≡ k → Held (state d) h → Held (state d) k → h ≢ k → d.mask.level ≡ 0 → Manned d
-manned-by d h k host cleaner held held' apart level = record {
+pub manned_by : {S : Type 0} (d : Station S) (h k : ℕ) → d.host.seat ≡ h → d.cleaner.seat ≡ k → Held (state d) h → Held (state d) k → h ≢ k → d.mask.level ≡ 0 → Manned d
+manned_by d h k host cleaner held held' apart level = record {
   host = subst (Held (state d)) (sym host) held;
   cleaner = subst (Held (state d)) (sym cleaner) held';
   apart = λ e. apart (sym host ∙ e ∙ cleaner);
@@ -52,12 +52,12 @@ pub held_at : {K M : Type 0} {s : State K M} {t u : ℕ} → u ≡ t → Held s 
 held_at {s = s} e h = subst (Held s) (sym e) h
 
 -- the same call
-pub called-as : {M : Type 0} {table : M → Table} {strict : Bool} {acts : Order → M → M → Type 0} {s : State Wear M} {c c' : Call Wear} {a : Answer} {s' : State Wear M} → c ≡ c' → Called table strict acts s c a s' → Called table strict acts s c' a s'
-called-as {table = table} {strict = strict} {acts = acts} {s = s} {a = a} {s' = s'} e h = subst (λ c. Called table strict acts s c a s') e h
+pub called_as : {M : Type 0} {table : M → Table} {strict : Bool} {acts : Order → M → M → Type 0} {s : State Wear M} {c c' : Call Wear} {a : Answer} {s' : State Wear M} → c ≡ c' → Called table strict acts s c a s' → Called table strict acts s c' a s'
+called_as {table = table} {strict = strict} {acts = acts} {s = s} {a = a} {s' = s'} e h = subst (λ c. Called table strict acts s c a s') e h
 
 -- a call that is no leave leaves both tasks there
-pub stays-manned : {M : Type 0} {table : M → Table} {strict : Bool} {acts : Order → M → M → Type 0} (d d' : Station M) (c : Call Wear) (a : Answer) → Did wear-below table strict acts (state d) c a (state d')
+pub stays_manned : {M : Type 0} {table : M → Table} {strict : Bool} {acts : Order → M → M → Type 0} (d d' : Station M) (c : Call Wear) (a : Answer) → Did wear_below table strict acts (state d) c a (state d')
     → c.what ≢ leave → length d'.cells ≡ length d.cells → d'.host ≡ d.host → d'.cleaner ≡ d.cleaner → d'.mask.level ≡ d.mask.level → Manned d → Manned d'
-stays-manned {table = table} {strict = strict} {acts = acts} d d' c a did apart long host cleaner level m =
-    let keeps : (u : ℕ) → Held (state d) u → Held (state d') u = λ u h. stays-held wear-below table strict acts (state d) c a (state d') did (as_long d.cells d'.cells long) u (inl apart) h in
-    manned-by d' d.host.seat d.cleaner.seat (ap (λ (s : Slip). s.seat) host) (ap (λ (s : Slip). s.seat) cleaner) (keeps _ m.host) (keeps _ m.cleaner) m.apart (level ∙ m.level)
+stays_manned {table = table} {strict = strict} {acts = acts} d d' c a did apart long host cleaner level m =
+    let keeps : (u : ℕ) → Held (state d) u → Held (state d') u = λ u h. stays_held wear_below table strict acts (state d) c a (state d') did (as_long d.cells d'.cells long) u (inl apart) h in
+    manned_by d' d.host.seat d.cleaner.seat (ap (λ (s : Slip). s.seat) host) (ap (λ (s : Slip). s.seat) cleaner) (keeps _ m.host) (keeps _ m.cleaner) m.apart (level ∙ m.level)

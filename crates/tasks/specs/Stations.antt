@@ -3,14 +3,14 @@ use Rattle.std.specs.Prelude.{◌≡◌, ℕ, Bool, ◌≢◌, List, [], ◌∷�
 use Rattle.std.specs.Option.{option_map}
 use Rattle.basis.specs.declared.answer.Answer.{Answer}
 use Rattle.basis.specs.declared.answer.Answer.TheVariants.{Ok}
-use Rattle.keys.specs.Wear.{wear-below}
+use Rattle.keys.specs.Wear.{wear_below}
 use Rattle.list_law.specs.Performed.{Ask}
 use Rattle.list_law.specs.Driven.{Driven}
 use Rattle.keys.specs.declared.wear.Wear.{Wear}
 use Rattle.ledger.specs.Ledger.{Call, join}
 use Rattle.list_law.specs.Call.{State}
-use Rattle.list_window.specs.Applied.{state-of}
-use Rattle.list.specs.Calls.{call-of}
+use Rattle.list_window.specs.Applied.{state_of}
+use Rattle.list.specs.Calls.{call_of}
 use Rattle.list.specs.Slips.{Held}
 use Rattle.tasks.specs.declared.station.Station.{Station}
 use Rattle.marks.specs.Meaning.{Table, Order}
@@ -25,20 +25,20 @@ use Rattle.tasks.specs.Turns.{asked}
 
 -- what the index keeps
 abbrev pub state : {S : Type 0} → Station S → State Wear S
-state d = state-of d.cells d.rows d.anchor d.scheme
+state d = state_of d.cells d.rows d.anchor d.scheme
 
 -- the seat of a task, by the seats of host and cleaner
-abbrev pub seat-by : ℕ → ℕ → Task → ℕ
-seat-by h k Host = h
-seat-by h k Cleaner = k
+abbrev pub seat_by : ℕ → ℕ → Task → ℕ
+seat_by h k Host = h
+seat_by h k Cleaner = k
 
 -- the same, by their slips
 abbrev pub seat : {S : Type 0} → Station S → Task → ℕ
-seat d t = seat-by d.host.seat d.cleaner.seat t
+seat d t = seat_by d.host.seat d.cleaner.seat t
 
 -- the call of a turn, at the mask level of the station
 abbrev pub call : {S : Type 0} → Station S → Turn → Call Wear
-call d t = call-of (asked t.ask) (seat d t.task) d.mask.level d.cells d.rows
+call d t = call_of (asked t.ask) (seat d t.task) d.mask.level d.cells d.rows
 
 -- both tasks hold their seats, which are two, and no interrupt is masked
 pub record Manned {S : Type 0} (d : Station S) : Type 0 where
@@ -60,22 +60,22 @@ pub record Same {S : Type 0} (d d' : Station S) : Type 0 where
 
 -- what is asked in a line, by host and cleaner at these seats
 abbrev pub asking : ℕ → ℕ → Line → Ask Wear
-asking h k l = record { seat = seat-by h k l.turn.task; level = 0; what = asked l.turn.ask }
+asking h k l = record { seat = seat_by h k l.turn.task; level = 0; what = asked l.turn.ask }
 
 -- the same, at the seats of their slips
 abbrev pub ask_in : {S : Type 0} → Station S → Line → Ask Wear
 ask_in d = asking d.host.seat d.cleaner.seat
 
 -- the answer that was seen of a turn, if it was taken
-abbrev pub answer-in : Line → Option Answer
-answer-in l = option_map (λ (s : Seen). s.answer) l.seen
+abbrev pub answer_in : Line → Option Answer
+answer_in l = option_map (λ (s : Seen). s.answer) l.seen
 
 -- from d to d' the turns of these lines were taken, one after another: whatever lawful run led to d, the run with these calls, and with
 -- the answers that the lines show, leads to d' and is lawful
 abbrev pub Plays : {S : Type 0} → (S → Table) → Bool → (Order → S → S → Type 0) → Station S → List Line → Station S → Type 0
 Plays {S} table strict acts d ls d' =
-    (n w : ℕ) (start : State Wear S) (asks : List (Ask Wear)) (answers : List Answer) → length d.cells ≡ n → Driven wear-below table strict acts n w start asks answers (state d) →
-    (new : List Answer) × (map answer-in ls ≡ map Some new) × Driven wear-below table strict acts n w start (asks ++ map (ask_in d) ls) (answers ++ new) (state d')
+    (n w : ℕ) (start : State Wear S) (asks : List (Ask Wear)) (answers : List Answer) → length d.cells ≡ n → Driven wear_below table strict acts n w start asks answers (state d) →
+    (new : List Answer) × (map answer_in ls ≡ map Some new) × Driven wear_below table strict acts n w start (asks ++ map (ask_in d) ls) (answers ++ new) (state d')
 
 -- a join of seat t
 abbrev pub joining : ℕ → Ask Wear
@@ -85,13 +85,13 @@ joining t = record { seat = t; level = 0; what = join }
 pub record Begun {S : Type 0} (table : S → Table) (strict : Bool) (acts : Order → S → S → Type 0) (n w h k : ℕ) (d : Station S) : Type 0 where
   pub cells : length d.cells ≡ n
   pub start : State Wear S
-  pub run : Driven wear-below table strict acts n w start (joining h ∷ joining k ∷ []) (Ok ∷ Ok ∷ []) (state d)
+  pub run : Driven wear_below table strict acts n w start (joining h ∷ joining k ∷ []) (Ok ∷ Ok ∷ []) (state d)
 
 -- host and cleaner joined an index of n cells with window w at these seats and took the turns of these lines, each of which shows its
 -- answer: the answers are those of a lawful run of exactly these calls
 pub record Ran {S : Type 0} (table : S → Table) (strict : Bool) (acts : Order → S → S → Type 0) (n w h k : ℕ) (ls : List Line) : Type 0 where
   pub answers : List Answer
-  pub shown : map answer-in ls ≡ map Some answers
+  pub shown : map answer_in ls ≡ map Some answers
   pub start : State Wear S
   pub last : State Wear S
-  pub run : Driven wear-below table strict acts n w start (joining h ∷ joining k ∷ map (asking h k) ls) (Ok ∷ Ok ∷ answers) last
+  pub run : Driven wear_below table strict acts n w start (joining h ∷ joining k ∷ map (asking h k) ls) (Ok ∷ Ok ∷ answers) last

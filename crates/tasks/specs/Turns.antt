@@ -3,7 +3,7 @@ use Rattle.std.specs.Prelude.{Bool, None, Option}
 use Rattle.basis.specs.declared.place.Place.{Place}
 use Rattle.basis.specs.declared.answer.Answer.{Answer}
 use Rattle.keys.specs.declared.wear.Wear.{Wear}
-use Rattle.keys.specs.Wear.{wear-below}
+use Rattle.keys.specs.Wear.{wear_below}
 use Rattle.marks.specs.Meaning.{Table, Order}
 use Rattle.ledger.specs.Ledger.{What, begin, step, abandon, Call}
 use Rattle.list_law.specs.Call.{State, Did}
@@ -23,14 +23,14 @@ asked ask.Abandon = abandon
 
 -- a call on wear keys led from s to s' with this answer, and the run goes on with it and is lawful
 pub record Called {M : Type 0} (table : M → Table) (strict : Bool) (acts : Order → M → M → Type 0) (s : State Wear M) (c : Call Wear) (a : Answer) (s' : State Wear M) : Type 0 where
-  pub did : Did wear-below table strict acts s c a s'
-  pub runs : Continues wear-below table strict acts s c a s'
+  pub did : Did wear_below table strict acts s c a s'
+  pub runs : Continues wear_below table strict acts s c a s'
 
 -- a line whose turn is not yet taken
 abbrev pub untaken : Task → Ask → Line
 untaken t a = record { turn = record { task = t; ask = a }; seen = None }
 
 -- the mark of a task
-abbrev pub mark-by : Marks → Task → Option Place
-mark-by m Host = m.host
-mark-by m Cleaner = m.cleaner
+abbrev pub mark_by : Marks → Task → Option Place
+mark_by m Host = m.host
+mark_by m Cleaner = m.cleaner

@@ -1,6 +1,6 @@
 // The account of the turns, as text.
 ghost use Rattle.std.specs.Prelude.{◌≡◌};
-ghost use Rattle.tasks.specs.Turns.{mark-by};
+ghost use Rattle.tasks.specs.Turns.{mark_by};
 
 use crate::turn::{Ask, Line, Marks, Seen, Task};
 use basis::answer::Answer;
@@ -33,7 +33,7 @@ fn kind_name(kind: Kind) -> &'static str {
 }
 
 fn mark_of(marks: Marks, task: Task) -> Option<Place>
-    ensures { result ≡ mark-by marks task }
+    ensures { result ≡ mark_by marks task }
 {
     match task {
         Task::Host => marks.host,

@@ -1,7 +1,7 @@
 // An index with two tasks at it, each with a slip in hand.
 ghost use Rattle.std.specs.Prelude.{◌≡◌, ◌<◌, map, length, IfOk, MatchResult};
-ghost use Rattle.list_window.specs.Applied.{state-of};
-ghost use Rattle.list.specs.Calls.{call-of};
+ghost use Rattle.list_window.specs.Applied.{state_of};
+ghost use Rattle.list.specs.Calls.{call_of};
 ghost use Rattle.tasks.specs.Turns.{asked, Called};
 ghost use Rattle.marks.specs.Marks.{numbered};
 ghost use Rattle.tasks.specs.Stations.{state, call, Manned, Marked, Same, Plays, Begun, Ran};
@@ -40,7 +40,7 @@ fn show<S: Scheme>(
     mask: &mut Mask,
     ask: Ask,
 ) -> Answer
-    ensures called { Called S.Scheme.table S.Scheme.strict S.Scheme.acts (state-of cells.old rows.old anchor.old scheme.old) (call-of (asked ask) slip.now.seat mask.old.level cells.old rows.old) result (state-of cells.new rows.new anchor.new scheme.new) }
+    ensures called { Called S.Scheme.table S.Scheme.strict S.Scheme.acts (state_of cells.old rows.old anchor.old scheme.old) (call_of (asked ask) slip.now.seat mask.old.level cells.old rows.old) result (state_of cells.new rows.new anchor.new scheme.new) }
     ensures level { mask.new.level ≡ mask.old.level }
 {
     match ask {

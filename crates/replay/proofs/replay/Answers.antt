@@ -3,7 +3,7 @@ use Rattle.std.proofs.Common.{List, vec_items, string_bytes, ap, ◌∙◌, subs
 use Rattle.std.proofs.lemmas.Result.{IfOk-weaker}
 use Rattle.schedule.specs.declared.reader.Part.{Part}
 use Rattle.schedule.specs.Lines.{lines_from}
-use Rattle.replay.specs.Views.{refused-by}
+use Rattle.replay.specs.Views.{refused_by}
 use Rattle.replay.proofs.Answering.{Outcome}
 use Rattle.replay.proofs.Whole.{not_opened, opened}
 use Rattle.replay.proofs.replay.Goals as goal
@@ -14,7 +14,7 @@ returns-in-Err c = IfOk-weaker c.open_line.result _ _ (λ text t. not_opened c.a
 pub returns : goal.returns
 returns c =
     let contents = c.in_ok-contents.contents in
-    let stop = refused-by contents.refusal in
+    let stop = refused_by contents.refusal in
     let answers = c.in_ok-outcomes.outcomes in
     IfOk-weaker c.lines.result _ _
     (λ text t. opened c.args.bytes.now (string_bytes text) contents (vec_items answers) c.in_default.ensures.0 c.in_ok-contents.ensures

@@ -3,13 +3,13 @@ use Rattle.std.proofs.Common.{◌≡◌, [], ◌∷◌, ◌++◌, map, length, t
 use Rattle.std.proofs.lemmas.List.{take_all, take_more, take_more_set, get_or-map, length-map}
 use Rattle.list_law.specs.Performed.{called}
 use Rattle.list_law.specs.Driven.{asked}
-use Rattle.list_law.proofs.Driven.{driven-more, driven-as}
-use Rattle.list_cells.specs.Views.{cell-of}
+use Rattle.list_law.proofs.Driven.{driven_more, driven_as}
+use Rattle.list_cells.specs.Views.{cell_of}
 use Rattle.list_window.specs.Rows.{row_of}
-use Rattle.list_window.specs.Turns.{what-of}
-use Rattle.list.specs.Calls.{call-of}
-use Rattle.list_driver.specs.Asks.{ask-of}
-use Rattle.list_window.specs.Applied.{state-of}
+use Rattle.list_window.specs.Turns.{what_of}
+use Rattle.list.specs.Calls.{call_of}
+use Rattle.list_driver.specs.Asks.{ask_of}
+use Rattle.list_window.specs.Applied.{state_of}
 use Rattle.list_driver.proofs.driver.drive.Goals as goal
 
 pub loop-at-preserved : goal.loop-at-preserved
@@ -21,20 +21,20 @@ loop-at-preserved g c =
     let n = length c.args.cells.now in
     let w = c.args.anchor.now.window in
     let kept = c.loop-at.auto in
-    let before = state-of c.loop-at.cells c.loop-at.rows c.loop-at.anchor c.loop-at.scheme in
-    let call : call-of (what-of ask.request) ask.seat ask.level c.loop-at.cells c.loop-at.rows ≡ asked n (ask-of ask) =
-    λ i. record { what = what-of ask.request; seat = ask.seat; level = ask.level; cells = kept.cells i; rows = (kept.rows ∙ c.requires.1.0) i } in
-    let own : call-of (what-of ask.request) ask.seat ask.level c.loop-at.cells c.loop-at.rows ≡ called before (ask-of ask) =
-    λ i. record { what = what-of ask.request; seat = ask.seat; level = ask.level; cells = sym (length-map c.loop-at.cells cell-of) i; rows = sym (length-map c.loop-at.rows row_of) i } in
-    let one = take_more (map ask-of asks) at (ask-of ask) (omega (arith, length-map asks ask-of)) ∙ ap (λ k. take at (map ask-of asks) ++ k ∷ []) (get_or-map ask-of asks at ask (ask-of ask) (omega arith) ∙ ap ask-of (sym c.index-asks-at.is)) in
-    driven-as g.K.Key.below scheme.table scheme.strict scheme.acts n w (sym one) (sym (take_more_set c.loop-at.answers at c.run_ask.result (omega (arith, kept.answers, c.requires.0))))
-    (driven-more g.K.Key.below scheme.table scheme.strict scheme.acts n w _ _ _ before (ask-of ask) _ c.run_ask.result _ call own c.loop-at.invariant c.run_ask.ensures.did c.run_ask.ensures.runs)
+    let before = state_of c.loop-at.cells c.loop-at.rows c.loop-at.anchor c.loop-at.scheme in
+    let call : call_of (what_of ask.request) ask.seat ask.level c.loop-at.cells c.loop-at.rows ≡ asked n (ask_of ask) =
+    λ i. record { what = what_of ask.request; seat = ask.seat; level = ask.level; cells = kept.cells i; rows = (kept.rows ∙ c.requires.1.0) i } in
+    let own : call_of (what_of ask.request) ask.seat ask.level c.loop-at.cells c.loop-at.rows ≡ called before (ask_of ask) =
+    λ i. record { what = what_of ask.request; seat = ask.seat; level = ask.level; cells = sym (length-map c.loop-at.cells cell_of) i; rows = sym (length-map c.loop-at.rows row_of) i } in
+    let one = take_more (map ask_of asks) at (ask_of ask) (omega (arith, length-map asks ask_of)) ∙ ap (λ k. take at (map ask_of asks) ++ k ∷ []) (get_or-map ask_of asks at ask (ask_of ask) (omega arith) ∙ ap ask_of (sym c.index-asks-at.is)) in
+    driven_as g.K.Key.below scheme.table scheme.strict scheme.acts n w (sym one) (sym (take_more_set c.loop-at.answers at c.run_ask.result (omega (arith, kept.answers, c.requires.0))))
+    (driven_more g.K.Key.below scheme.table scheme.strict scheme.acts n w _ _ _ before (ask_of ask) _ c.run_ask.result _ call own c.loop-at.invariant c.run_ask.ensures.did c.run_ask.ensures.runs)
 
 pub returns : goal.returns
 returns g c =
     let scheme = g.S.Scheme in
     let asks = c.args.asks.now in
-    driven-as g.K.Key.below scheme.table scheme.strict scheme.acts (length c.args.cells.now) c.args.anchor.now.window
-    (take_all c.loop-at.at (map ask-of asks) (omega (arith, length-map asks ask-of)))
+    driven_as g.K.Key.below scheme.table scheme.strict scheme.acts (length c.args.cells.now) c.args.anchor.now.window
+    (take_all c.loop-at.at (map ask_of asks) (omega (arith, length-map asks ask_of)))
     (take_all c.loop-at.at c.loop-at.answers (omega (arith, c.loop-at.auto.answers, c.requires.0)))
     c.loop-at.invariant

@@ -1,8 +1,8 @@
 -- Runs begin and go on, from the laws of the key's order. Assumes nothing.
-use Rattle.list_law.proofs.Existence.{runs-are-there}
+use Rattle.list_law.proofs.Existence.{runs_are_there}
 use Rattle.list_law.proofs.proved.runs_are_there.Goals as goal
 
 pub returns : goal.returns
 returns g c =
-    runs-are-there g.K.Key.below (record { irreflexive = g.met.K.Key.irreflexive; transitive = g.met.K.Key.transitive; same_transitive = g.met.K.Key.same_transitive })
+    runs_are_there g.K.Key.below (record { irreflexive = g.met.K.Key.irreflexive; transitive = g.met.K.Key.transitive; same_transitive = g.met.K.Key.same_transitive })
     g.S.Scheme.table g.S.Scheme.strict g.S.Scheme.acts

@@ -1,6 +1,6 @@
 use Rattle.std.proofs.Common.{true, false}
 use Rattle.marks.specs.Marks.{numbered, names}
-use Rattle.marks.proofs.Cleared.{cleared_more, cleared-all}
+use Rattle.marks.proofs.Cleared.{cleared_more, cleared_all}
 use Rattle.marks.proofs.full.clear_each.Goals as goal
 use Rattle.marks.proofs.full.clear_each.Goals.{then-stands_on, else-stands_on}
 
@@ -13,4 +13,4 @@ loop-mark-preserved c =
     ]
 
 pub returns : goal.returns
-returns c = cleared-all (λ m. names c.args.p.number (numbered m)) _ _ _ c.loop-mark-test.false c.loop-mark.invariant
+returns c = cleared_all (λ m. names c.args.p.number (numbered m)) _ _ _ c.loop-mark-test.false c.loop-mark.invariant

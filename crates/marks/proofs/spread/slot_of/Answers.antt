@@ -1,10 +1,10 @@
 use Rattle.std.proofs.Common.{ℕ, ◌%◌, ◌<◌, get_or, sym, ap, ◌∙◌, subst}
 use Rattle.marks.specs.Spread.{entries, slot}
-use Rattle.marks.proofs.Slots.{slot-below}
+use Rattle.marks.proofs.Slots.{slot_below}
 use Rattle.marks.proofs.spread.slot_of.Goals as goal
 
 pub returns : goal.returns
 unfolding slot
 returns c =
     let value = c.spread_entry.ensures ∙ ap (λ n. get_or entries (n % 16) 0) c.number.ensures in
-    record { value = value; below = subst (λ (n : ℕ). n < 16) (sym value) (slot-below c.args.p.number) }
+    record { value = value; below = subst (λ (n : ℕ). n < 16) (sym value) (slot_below c.args.p.number) }

@@ -1,7 +1,7 @@
 use Rattle.std.proofs.Common.{true, false}
 use Rattle.std.specs.Option.{option_map}
 use Rattle.marks.specs.Version.{kept_in, seen_of}
-use Rattle.marks.proofs.Cleared.{cleared_more, cleared-all}
+use Rattle.marks.proofs.Cleared.{cleared_more, cleared_all}
 use Rattle.marks.proofs.version.clear_slot.Goals as goal
 use Rattle.marks.proofs.version.clear_slot.Goals.{then-is_kept_in, else-is_kept_in}
 
@@ -14,4 +14,4 @@ loop-mark-preserved c =
     ]
 
 pub returns : goal.returns
-returns c = cleared-all (λ m. kept_in c.args.slot (option_map seen_of m)) _ _ _ c.loop-mark-test.false c.loop-mark.invariant
+returns c = cleared_all (λ m. kept_in c.args.slot (option_map seen_of m)) _ _ _ c.loop-mark-test.false c.loop-mark.invariant

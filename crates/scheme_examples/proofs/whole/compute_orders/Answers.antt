@@ -1,13 +1,13 @@
 use Rattle.marks.specs.declared.version.Version.{Version}
-use Rattle.marks.specs.Full.{full-state, full-act}
-use Rattle.marks.specs.Owner.{owner-state, owner-act}
-use Rattle.marks.specs.Version.{version-state, version-act}
-use Rattle.marks.proofs.Computed.{along-computes}
+use Rattle.marks.specs.Full.{full_state, full_act}
+use Rattle.marks.specs.Owner.{owner_state, owner_act}
+use Rattle.marks.specs.Version.{version_state, version_act}
+use Rattle.marks.proofs.Computed.{along_computes}
 use Rattle.scheme_examples.proofs.whole.compute_orders.Goals as goal
 
 pub returns : goal.returns
 returns c = record {
-  full = along-computes full-state full-act;
-  owner = along-computes owner-state owner-act;
-  version = along-computes (λ (v : Version). version-state v.kept) version-act;
+  full = along_computes full_state full_act;
+  owner = along_computes owner_state owner_act;
+  version = along_computes (λ (v : Version). version_state v.kept) version_act;
 }

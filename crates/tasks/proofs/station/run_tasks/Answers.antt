@@ -1,7 +1,7 @@
 -- The turns go on with the run that the two joins began.
 use Rattle.std.proofs.Common.{◌∷◌, map, length, refl}
-use Rattle.keys.specs.Wear.{wear-below}
-use Rattle.list_law.proofs.Driven.{driven-as}
+use Rattle.keys.specs.Wear.{wear_below}
+use Rattle.list_law.proofs.Driven.{driven_as}
 use Rattle.tasks.specs.Stations.{asking, joining, state}
 use Rattle.tasks.proofs.station.run_tasks.Goals as goal
 
@@ -19,6 +19,6 @@ returns g c =
         shown = went.1;
         start = opened.begun.start;
         last = state c.play.new.self;
-        run = driven-as wear-below scheme.table scheme.strict scheme.acts (length c.args.cells) c.args.window (λ i. joining c.args.host ∷ joining c.args.cleaner ∷ map (asking (seats.0 i) (seats.1 i)) lines) refl went.2;
+        run = driven_as wear_below scheme.table scheme.strict scheme.acts (length c.args.cells) c.args.window (λ i. joining c.args.host ∷ joining c.args.cleaner ∷ map (asking (seats.0 i) (seats.1 i)) lines) refl went.2;
       };
     }

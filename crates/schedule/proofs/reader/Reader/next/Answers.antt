@@ -1,7 +1,7 @@
 -- Where a record is handed out, the definition hands out the same one.
 use Rattle.std.proofs.Common.{◌≡◌, ◌-◌, ◌∷◌, length, codes, sym, ap, ◌∙◌, arith}
 use Rattle.basis.specs.Told.{told}
-use Rattle.schedule.specs.Reading.{due, content-due, left_after, first-after}
+use Rattle.schedule.specs.Reading.{due, content_due, left_after, first_after}
 use Rattle.schedule.proofs.Cuts.{hands}
 use Rattle.schedule.proofs.reader.Reader.next.Goals as goal
 
@@ -15,8 +15,8 @@ returns c =
     let moved = c.moved.ensures in
     record {
       value = ap (λ n. told 0 (codes "record") (n ∷ bytes)) offset ∙ sym (ap due is);
-      content = sym (ap content-due is);
+      content = sym (ap content_due is);
       rest = moved.rest ∙ sym (ap (λ a. left_after a reader.rest.now) is);
       total = moved.total;
-      first = moved.first ∙ sym (ap (λ a. first-after a reader.first) is);
+      first = moved.first ∙ sym (ap (λ a. first_after a reader.first) is);
     }

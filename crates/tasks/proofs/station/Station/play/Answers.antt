@@ -2,11 +2,11 @@
 use Rattle.std.proofs.Common.{take, sym, refl, ◌∙◌, subst, arith}
 use Rattle.std.proofs.lemmas.List.{take_all, take_more_set}
 use Rattle.tasks.specs.Stations.{Plays}
-use Rattle.tasks.proofs.Plays.{plays-none, plays-more, turns-stay}
+use Rattle.tasks.proofs.Plays.{plays_none, plays_more, turns_stay}
 use Rattle.tasks.proofs.station.Station.play.Goals as goal
 
 pub loop-at-init : goal.loop-at-init
-loop-at-init g c = (c.requires, record { host = refl; cleaner = refl; cells = refl }, plays-none g.S.Scheme.table g.S.Scheme.strict g.S.Scheme.acts c.args.self.now, refl)
+loop-at-init g c = (c.requires, record { host = refl; cleaner = refl; cells = refl }, plays_none g.S.Scheme.table g.S.Scheme.strict g.S.Scheme.acts c.args.self.now, refl)
 
 pub loop-at-preserved : goal.loop-at-preserved
 loop-at-preserved g c =
@@ -19,8 +19,8 @@ loop-at-preserved g c =
       seen.manned,
       record { host = seen.same.host ∙ inv.1.host; cleaner = seen.same.cleaner ∙ inv.1.cleaner; cells = seen.same.cells ∙ inv.1.cells },
       subst (λ ls. Plays scheme.table scheme.strict scheme.acts d ls c.watch.new.self) (sym (take_more_set lines at _ (omega arith)))
-          (plays-more scheme.table scheme.strict scheme.acts d (take at lines) c.loop-at.self c.watch.new.self _ c.watch.result inv.0 inv.1 inv.2 seen.called),
-      turns-stay lines at c.index-lines-at.result _ (omega arith) c.index-lines-at.is refl ∙ inv.3,
+          (plays_more scheme.table scheme.strict scheme.acts d (take at lines) c.loop-at.self c.watch.new.self _ c.watch.result inv.0 inv.1 inv.2 seen.called),
+      turns_stay lines at c.index-lines-at.result _ (omega arith) c.index-lines-at.is refl ∙ inv.3,
     )
 
 pub returns : goal.returns

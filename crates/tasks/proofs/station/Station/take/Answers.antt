@@ -1,8 +1,8 @@
 use Rattle.std.proofs.Common.{sym, refl, ap}
-use Rattle.list.specs.Calls.{call-of}
+use Rattle.list.specs.Calls.{call_of}
 use Rattle.tasks.specs.Turns.{asked}
 use Rattle.tasks.specs.Stations.{seat}
-use Rattle.tasks.proofs.Manned.{called-as, asked-apart, stays-manned}
+use Rattle.tasks.proofs.Manned.{called_as, asked_apart, stays_manned}
 use Rattle.tasks.proofs.station.Station.take.Goals as goal
 
 pub returns-in-Host : goal.returns-in-Host
@@ -11,8 +11,8 @@ returns-in-Host g c =
     let ask = c.args.turn.ask in
     let called = c.show.ensures.called in
     record {
-      called = called-as (ap (λ t. call-of (asked ask) (seat d t) d.mask.level d.cells d.rows) (sym c.in-Host.is)) called;
-      manned = stays-manned d _ _ _ called.did (asked-apart ask) c.show.auto.cells refl refl c.show.ensures.level c.requires;
+      called = called_as (ap (λ t. call_of (asked ask) (seat d t) d.mask.level d.cells d.rows) (sym c.in-Host.is)) called;
+      manned = stays_manned d _ _ _ called.did (asked_apart ask) c.show.auto.cells refl refl c.show.ensures.level c.requires;
       same = record { host = refl; cleaner = refl; cells = c.show.auto.cells };
     }
 
@@ -22,7 +22,7 @@ returns-in-Cleaner g c =
     let ask = c.args.turn.ask in
     let called = c.show-in-Cleaner.ensures.called in
     record {
-      called = called-as (ap (λ t. call-of (asked ask) (seat d t) d.mask.level d.cells d.rows) (sym c.in-Cleaner.is)) called;
-      manned = stays-manned d _ _ _ called.did (asked-apart ask) c.show-in-Cleaner.auto.cells refl refl c.show-in-Cleaner.ensures.level c.requires;
+      called = called_as (ap (λ t. call_of (asked ask) (seat d t) d.mask.level d.cells d.rows) (sym c.in-Cleaner.is)) called;
+      manned = stays_manned d _ _ _ called.did (asked_apart ask) c.show-in-Cleaner.auto.cells refl refl c.show-in-Cleaner.ensures.level c.requires;
       same = record { host = refl; cleaner = refl; cells = c.show-in-Cleaner.auto.cells };
     }
