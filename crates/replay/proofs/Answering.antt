@@ -1,48 +1,55 @@
 -- The answers of the records of a schedule, case by case. Assumes nothing.
-use Rattle.std.proofs.Common.{◌≡◌, ℕ, false, List, [], ◌∷◌, ◌++◌, map, length, Some, None, Option, sym, refl, ap, ◌∙◌, subst, arith, MatchOption}
+use Rattle.std.proofs.Common.{◌≡◌, ℕ, true, false, List, [], ◌∷◌, ◌++◌, Some, None, Option, sym, refl, ap, ◌∙◌, subst, MatchOption}
 use Rattle.std.proofs.lemmas.Bool.{cond-true, cond-false, both_ways}
 use Rattle.basis.specs.declared.answer.Answer.{Answer}
 use Rattle.basis.specs.declared.answer.Answer.TheVariants.{Ok, Refused}
 use Rattle.basis.specs.declared.refusal.Refusal.TheVariants.{WrongSizes}
+use Rattle.keys.specs.declared.sector.Sector.{Sector}
 use Rattle.list_law.specs.Making.{makes}
-use Rattle.schedule.specs.declared.reader.Part.{Part}
+use Rattle.list_law.specs.Performed.{Ask}
 use Rattle.records.specs.declared.record.Record.{Record}
 use Rattle.records.specs.declared.record.Record.TheVariants.{Setup, Join, Leave, Begin, Step, Abandon}
 use Rattle.records.specs.declared.record.SchemeName.{SchemeName}
-use Rattle.schedule.specs.Reading.{Entry}
-use Rattle.schedule.specs.Whole.{seen}
-use Rattle.replay.specs.Answers.{asks_of}
+use Rattle.schedule.specs.Lines.{lines_from}
 use Rattle.replay.specs.Runs.{LawfulBy, Answered}
-use Rattle.replay.specs.Texts.{outcomes_from, outcomes, LawfulFrom, Lawfully}
+use Rattle.replay.specs.Texts.{outcomes, Lawfully}
 
--- these answers are the outcomes of a first record and those after it, lawfully
-abbrev pub Outcome-from : Record → List Entry → List Answer → List Answer → Type 0
-Outcome-from r es stop answers = (answers ≡ outcomes_from r es stop) × LawfulFrom r es
+-- this text is the lines of what the records are answered, lawfully
+abbrev pub Told : Option Record → List (Ask Sector) → List Answer → List ℕ → Type 0
+Told setup asks stop text = (text ≡ lines_from 1 (outcomes setup asks stop)) × Lawfully setup asks
+
+-- no records
+pub told_none : (setup : Option Record) (asks : List (Ask Sector)) (stop : List Answer) (text : List ℕ) → setup ≡ None → text ≡ lines_from 1 stop → Told setup asks stop text
+unfolding outcomes
+told_none setup asks stop text is e = subst (λ (o : Option Record). Told o asks stop text) (sym is) (e, tt)
+
+other : (r : Record) (asks : List (Ask Sector)) (stop : List Answer) (text : List ℕ) → ((name : SchemeName) (n w : ℕ) → r ≡ Setup name n w → ⊥) → text ≡ [] → Told (Some r) asks stop text
+unfolding outcomes lines_from
+other (Setup name n w) asks stop text never e = absurd (never name n w refl)
+other (Join seat) asks stop text never e = (e, tt)
+other (Leave seat) asks stop text never e = (e, tt)
+other (Begin kind seat n) asks stop text never e = (e, tt)
+other (Step seat) asks stop text never e = (e, tt)
+other (Abandon seat) asks stop text never e = (e, tt)
 
 -- a first record that is no setup, which never comes
-pub no_setup : (r : Record) (es : List Entry) (stop answers : List Answer) → ((name : SchemeName) (n w : ℕ) → r ≡ Setup name n w → ⊥) → answers ≡ [] → Outcome-from r es stop answers
-unfolding outcomes_from
-no_setup (Setup name n w) es stop answers never e = absurd (never name n w refl)
-no_setup (Join seat) es stop answers never e = (e, tt)
-no_setup (Leave seat) es stop answers never e = (e, tt)
-no_setup (Begin kind seat sector) es stop answers never e = (e, tt)
-no_setup (Step seat) es stop answers never e = (e, tt)
-no_setup (Abandon seat) es stop answers never e = (e, tt)
+pub told_other : (setup : Option Record) (r : Record) (asks : List (Ask Sector)) (stop : List Answer) (text : List ℕ) → setup ≡ Some r → ((name : SchemeName) (n w : ℕ) → r ≡ Setup name n w → ⊥) → text ≡ [] → Told setup asks stop text
+told_other setup r asks stop text is never e = subst (λ (o : Option Record). Told o asks stop text) (sym is) (other r asks stop text never e)
 
-module _ (r : Record) (name : SchemeName) (n w : ℕ) (is : r ≡ Setup name n w) (es : List Entry) (stop answers : List Answer) where
+module _ (setup : Option Record) (name : SchemeName) (n w : ℕ) (is : setup ≡ Some (Setup name n w)) (asks : List (Ask Sector)) (stop : List Answer) (text : List ℕ) where
   -- a setup that is refused
-  pub refused_setup : makes n 16 w ≡ false → answers ≡ Refused WrongSizes ∷ [] → Outcome-from r es stop answers
-  unfolding outcomes_from
-  refused_setup bad e =
-      subst (λ (x : Record). Outcome-from x es stop answers) (sym is) (e ∙ sym (cond-false (makes n 16 w) _ _ bad), λ good. absurd (both_ways _ bad good))
+  pub told_refused : makes n 16 w ≡ false → text ≡ lines_from 1 (Refused WrongSizes ∷ []) → Told setup asks stop text
+  unfolding outcomes
+  told_refused bad e =
+      subst (λ (o : Option Record). Told o asks stop text) (sym is) (e ∙ ap (lines_from 1) (sym (cond-false (makes n 16 w) _ _ bad)), λ good. absurd (both_ways _ bad good))
 
   -- a setup that is accepted, and the answers of the calls after it
-  pub accepted_setup : (calls : List Answer) → Answered name n w (asks_of es) calls → answers ≡ Ok ∷ (calls ++ stop) → Outcome-from r es stop answers
-  unfolding outcomes_from
-  accepted_setup calls a e =
-      subst (λ (x : Record). Outcome-from x es stop answers) (sym is) (
-        e ∙ ap (λ l. Ok ∷ (l ++ stop)) a.computed ∙ sym (cond-true (makes n 16 w) _ _ a.sizes),
-        λ _. subst (λ l. LawfulBy name n w (asks_of es) l) a.computed a.lawful,
+  pub told_accepted : (answers : List Answer) → Answered name n w asks answers → text ≡ lines_from 1 (Ok ∷ (answers ++ stop)) → Told setup asks stop text
+  unfolding outcomes
+  told_accepted answers a e =
+      subst (λ (o : Option Record). Told o asks stop text) (sym is) (
+        e ∙ ap (λ l. lines_from 1 (Ok ∷ (l ++ stop))) a.computed ∙ ap (lines_from 1) (sym (cond-true (makes n 16 w) _ _ a.sizes)),
+        λ _. subst (λ l. LawfulBy name n w asks l) a.computed a.lawful,
       )
 
 -- what is said of a value that is there, or not there
@@ -51,18 +58,3 @@ at_none o P Q e h = subst (λ x. MatchOption x P Q) e h
 
 pub at_some : {X : Type 0} (o : Option X) (x : X) (P : Type 0) (Q : X → Type 0) → o ≡ Some x → MatchOption o P Q → Q x
 at_some o x P Q e h = subst (λ y. MatchOption y P Q) e h
-
--- these answers are the outcomes of the records, lawfully
-abbrev pub Outcome : List Part → List Answer → List Answer → Type 0
-Outcome parts stop answers = (answers ≡ outcomes (map seen parts) stop) × Lawfully (map seen parts)
-
--- no records
-pub none_first : (parts : List Part) (stop answers : List Answer) → length parts ≡ 0 → answers ≡ stop → Outcome parts stop answers
-unfolding outcomes
-none_first [] stop answers h e = (e, tt)
-none_first (p ∷ parts) stop answers h e = absurd (omega arith)
-
--- a first record, and those after it
-pub some_first : (parts : List Part) (p : Part) (rest : List Part) (stop answers : List Answer) → parts ≡ p ∷ rest → Outcome-from p.content (map seen rest) stop answers → Outcome parts stop answers
-unfolding outcomes
-some_first parts p rest stop answers e o = subst (λ (l : List Part). Outcome l stop answers) (sym e) o

@@ -1,4 +1,4 @@
-pub mod Asked
+pub mod Taken
 pub mod Ran
 pub mod Named
 pub mod Answering

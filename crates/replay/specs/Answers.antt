@@ -1,6 +1,6 @@
 -- What the records of a schedule ask of an index, and what it answers: computed with the definition of one call and the definitions of the
 -- scheme that the setup names. Assumes nothing.
-use Rattle.std.specs.Prelude.{ℕ, false, List, [], ◌∷◌, ◌++◌, replicate, None}
+use Rattle.std.specs.Prelude.{ℕ, false, List, [], ◌∷◌, ◌++◌, replicate, Some, None, Option}
 use Rattle.basis.specs.declared.answer.Answer.{Answer}
 use Rattle.keys.specs.declared.sector.Sector.{Sector}
 use Rattle.marks.specs.Full.{full_new, full_act, full_get}
@@ -33,6 +33,15 @@ asked_by (Abandon seat) = asking seat abandon ∷ []
 unfoldable pub asks_of : List Entry → List (Ask Sector)
 asks_of [] = []
 asks_of (e ∷ es) = asked_by e.content ++ asks_of es
+
+-- what the first record of all says, if there is one; `first_of` is the step from one record to the next
+abbrev pub setup_of : List Entry → Option Record
+setup_of [] = None
+setup_of (e ∷ es) = Some e.content
+
+abbrev pub first_of : Option Record → Record → Option Record
+first_of None r = Some r
+first_of (Some s) r = Some s
 
 -- the cells that a replay lends: so many, with nothing in them
 abbrev pub blank : ℕ → List (Cell Sector)

@@ -1,4 +1,4 @@
 pub mod Answers
-pub mod Views
 pub mod Runs
 pub mod Texts
+pub mod Views

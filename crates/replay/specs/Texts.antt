@@ -6,10 +6,12 @@ use Rattle.basis.specs.declared.refusal.Refusal.TheVariants.{WrongSizes, BadReco
 use Rattle.list_law.specs.Making.{makes}
 use Rattle.records.specs.declared.record.Record.{Record}
 use Rattle.records.specs.declared.record.Record.TheVariants.{Setup, Join, Leave, Begin, Step, Abandon}
-use Rattle.schedule.specs.Reading.{Entry, Reading, handed, ended, malformed, next_of, open_refusal}
+use Rattle.schedule.specs.Reading.{Reading, handed, ended, malformed, next_of, open_refusal}
 use Rattle.schedule.specs.Schedules.{read_all, still, Accounted}
 use Rattle.schedule.specs.Lines.{lines_from, refused_line}
-use Rattle.replay.specs.Answers.{asks_of, answers_by}
+use Rattle.keys.specs.declared.sector.Sector.{Sector}
+use Rattle.list_law.specs.Performed.{Ask}
+use Rattle.replay.specs.Answers.{asks_of, setup_of, answers_by}
 use Rattle.replay.specs.Runs.{LawfulBy}
 
 -- the refusal of the record at which reading stops, if it does not come to the end
@@ -18,20 +20,17 @@ stopped (handed e left) = []
 stopped ended = []
 stopped malformed = Refused BadRecord ∷ []
 
--- what the records are answered, the first being the setup; `stop` is what comes after them. A refused setup is the last that is answered.
--- The reader hands out no other record first
-unfoldable pub outcomes_from : Record → List Entry → List Answer → List Answer
-outcomes_from (Setup name cells window) es stop =
-    cond (makes cells 16 window) (Ok ∷ (answers_by name cells window (asks_of es) ++ stop)) (Refused WrongSizes ∷ [])
-outcomes_from (Join seat) es stop = []
-outcomes_from (Leave seat) es stop = []
-outcomes_from (Begin kind seat sector) es stop = []
-outcomes_from (Step seat) es stop = []
-outcomes_from (Abandon seat) es stop = []
-
-unfoldable pub outcomes : List Entry → List Answer → List Answer
-outcomes [] stop = stop
-outcomes (e ∷ es) stop = outcomes_from e.content es stop
+-- what the records are answered: the first of them, which is a setup (the reader hands out no other record first), the calls after it,
+-- and then `stop`. A refused setup is the last that is answered
+unfoldable pub outcomes : Option Record → List (Ask Sector) → List Answer → List Answer
+outcomes None asks stop = stop
+outcomes (Some (Setup name cells window)) asks stop =
+    cond (makes cells 16 window) (Ok ∷ (answers_by name cells window asks ++ stop)) (Refused WrongSizes ∷ [])
+outcomes (Some (Join seat)) asks stop = []
+outcomes (Some (Leave seat)) asks stop = []
+outcomes (Some (Begin kind seat n)) asks stop = []
+outcomes (Some (Step seat)) asks stop = []
+outcomes (Some (Abandon seat)) asks stop = []
 
 -- how reading of bytes ends, after their last record
 abbrev pub stop_at : List ℕ → Reading
@@ -40,29 +39,28 @@ stop_at bytes = next_of (still true (read_all bytes).entries) (length bytes) (re
 -- the text: the refusal to open the bytes on line 0, or else a line for each record, numbered from 1
 abbrev pub opened_text : List ℕ → Option ℕ → List ℕ
 opened_text bytes (Some n) = refused_line 0 n
-opened_text bytes None = lines_from 1 (outcomes (read_all bytes).entries (stopped (stop_at bytes)))
+opened_text bytes None =
+    let records = (read_all bytes).entries in
+    lines_from 1 (outcomes (setup_of records) (asks_of records) (stopped (stop_at bytes)))
 
 unfoldable pub text_of : List ℕ → List ℕ
 text_of bytes = opened_text bytes (open_refusal bytes)
 
 -- the answers of the calls after an accepted setup are those of a lawful run of exactly these calls
-abbrev pub LawfulFrom : Record → List Entry → Type 0
-LawfulFrom (Setup name cells window) es = makes cells 16 window ≡ true → LawfulBy name cells window (asks_of es) (answers_by name cells window (asks_of es))
-LawfulFrom (Join seat) es = Unit {0}
-LawfulFrom (Leave seat) es = Unit {0}
-LawfulFrom (Begin kind seat sector) es = Unit {0}
-LawfulFrom (Step seat) es = Unit {0}
-LawfulFrom (Abandon seat) es = Unit {0}
-
-abbrev pub Lawfully : List Entry → Type 0
-Lawfully [] = Unit {0}
-Lawfully (e ∷ es) = LawfulFrom e.content es
+abbrev pub Lawfully : Option Record → List (Ask Sector) → Type 0
+Lawfully None asks = Unit {0}
+Lawfully (Some (Setup name cells window)) asks = makes cells 16 window ≡ true → LawfulBy name cells window asks (answers_by name cells window asks)
+Lawfully (Some (Join seat)) asks = Unit {0}
+Lawfully (Some (Leave seat)) asks = Unit {0}
+Lawfully (Some (Begin kind seat n)) asks = Unit {0}
+Lawfully (Some (Step seat)) asks = Unit {0}
+Lawfully (Some (Abandon seat)) asks = Unit {0}
 
 -- a schedule, replayed
 pub record Replayed (bytes : List ℕ) (text : List ℕ) : Type 0 where
   -- the text is computed from the bytes
   pub computed : text ≡ text_of bytes
   -- its answers are those of a lawful run
-  pub lawful : open_refusal bytes ≡ None → Lawfully (read_all bytes).entries
+  pub lawful : open_refusal bytes ≡ None → Lawfully (setup_of (read_all bytes).entries) (asks_of (read_all bytes).entries)
   -- its records are those that the bytes hold: none is skipped, none invented, and reading stops where the rest begins no record
   pub accounted : open_refusal bytes ≡ None → Accounted bytes

@@ -5,15 +5,15 @@ ghost use Rattle.std.specs.Prelude.{◌≡◌, IfOk, string_bytes};
 ghost use Rattle.schedule.specs.Lines.{line_of};
 ghost use Rattle.replay.specs.Texts.{Replayed};
 
-mod asks;
-mod outcomes;
+mod calls;
 mod runs;
+mod text;
 
-use crate::outcomes::outcomes_of;
+use crate::calls::read_calls;
+use crate::text::text_of;
 use basis::answer::Answer;
 use basis::refusal::Refusal;
-use schedule::contents::read_whole;
-use schedule::lines::{line, lines};
+use schedule::lines::line;
 use schedule::reader::Reader;
 use std::alloc::{AllocError, Global};
 
@@ -32,7 +32,6 @@ pub fn replay(heap: Global, bytes: &[u8]) -> Result<String, AllocError>
     if let Err(refusal) = Reader::open(bytes) {
         return open_line(heap, refusal);
     }
-    let contents = read_whole(heap, bytes)?;
-    let outcomes = outcomes_of(heap, contents.parts.as_slice(), contents.refusal)?;
-    lines(heap, outcomes.as_slice())
+    let calls = read_calls(heap, bytes)?;
+    text_of(heap, &calls)
 }

@@ -1,7 +1,7 @@
 use Rattle.std.proofs.Common.{◌++◌, map, vec_items, ap, ◌∙◌}
 use Rattle.std.proofs.lemmas.List.{map_push}
 use Rattle.list_driver.specs.Asks.{ask_of}
-use Rattle.replay.proofs.asks.push_ask.Goals as goal
+use Rattle.replay.proofs.calls.push_ask.Goals as goal
 
 pub returns-in_ok-push : goal.returns-in_ok-push
 returns-in_ok-push c =

@@ -1,0 +1,66 @@
+-- What was read of a schedule so far: its first record, and what its records ask. Assumes nothing.
+use Rattle.std.proofs.Common.{◌≡◌, ℕ, List, [], ◌∷◌, ◌++◌, true, Some, None, Option, vec_items, map, length, refl, sym, ap, ◌∙◌, append_assoc, append-nil, arith}
+use Rattle.basis.specs.declared.refusal.Refusal.{Refusal}
+use Rattle.basis.specs.declared.refusal.Refusal.TheVariants.{BadRecord}
+use Rattle.basis.specs.declared.answer.Answer.TheVariants.{Refused}
+use Rattle.basis.specs.Refusals.{refusal}
+use Rattle.basis.proofs.Numbers.{same_number}
+use Rattle.keys.specs.declared.sector.Sector.{Sector}
+use Rattle.list_law.specs.Performed.{Ask}
+use Rattle.list_driver.specs.Asks.{ask_of}
+use Rattle.records.specs.declared.record.Record.{Record}
+use Rattle.schedule.specs.declared.reader.Part.{Part}
+use Rattle.schedule.specs.declared.reader.Reader.{Reader}
+use Rattle.schedule.specs.Reading.{Entry, Reading, handed, ended, malformed, reading, next_of}
+use Rattle.schedule.specs.Schedules.{read_all, still, Stops}
+use Rattle.schedule.specs.Whole.{seen}
+use Rattle.schedule.proofs.Sofar.{Sofar, Gave, sofar_more, sofar_all}
+use Rattle.replay.specs.declared.calls.Calls.{Calls}
+use Rattle.replay.specs.Answers.{asked_by, asks_of, setup_of, first_of}
+use Rattle.replay.specs.Texts.{stopped, stop_at}
+use Rattle.replay.specs.Views.{refused_by, Says}
+
+pub asks_more : (before : List Entry) (e : Entry) → asks_of (before ++ e ∷ []) ≡ asks_of before ++ asked_by e.content
+unfolding asks_of
+asks_more [] e = append-nil (asked_by e.content)
+asks_more (b ∷ before) e = ap (λ l. asked_by b.content ++ l) (asks_more before e) ∙ sym (append_assoc (asked_by b.content) (asks_of before) (asked_by e.content))
+
+setup_more : (before : List Entry) (e : Entry) → setup_of (before ++ e ∷ []) ≡ first_of (setup_of before) e.content
+setup_more [] e = refl
+setup_more (b ∷ before) e = refl
+
+-- some records were handed out so far: the first of them is kept, and what they ask
+pub record Taken (bytes : List ℕ) (reader : Reader) (setup : Option Record) (asks : List (Ask Sector)) : Type 0 where
+  pub records : List Entry
+  pub sofar : Sofar bytes records reader
+  pub first : setup ≡ setup_of records
+  pub asked : asks ≡ asks_of records
+
+pub taken_none : (bytes : List ℕ) (reader : Reader) {asks : List (Ask Sector)} → Sofar bytes [] reader → asks ≡ [] → Taken bytes reader None asks
+unfolding asks_of
+taken_none bytes reader s e = record { records = []; sofar = s; first = refl; asked = e }
+
+pub taken_more : (bytes : List ℕ) (before : Reader) (p : Part) (after : Reader) {setup setup' : Option Record} {asks asks' : List (Ask Sector)}
+    → Taken bytes before setup asks → Gave before p after → setup' ≡ first_of setup p.content → asks' ≡ asks ++ asked_by p.content → Taken bytes after setup' asks'
+taken_more bytes before p after t g e f = record {
+  records = t.records ++ seen p ∷ [];
+  sofar = sofar_more bytes t.records before p after t.sofar g;
+  first = e ∙ ap (λ o. first_of o p.content) t.first ∙ sym (setup_more t.records (seen p));
+  asked = f ∙ ap (λ l. l ++ asked_by p.content) t.asked ∙ sym (asks_more t.records (seen p));
+}
+
+-- where no further record is handed out, that is all that the schedule says
+pub says : (bytes : List ℕ) (c : Calls) (reader : Reader) → Taken bytes reader c.setup (map ask_of (vec_items c.asks)) → Stops (reading reader) → refused_by c.stop ≡ stopped (reading reader) → Says bytes c
+says bytes c reader t stops e =
+    let all = sofar_all bytes t.records reader t.sofar stops in
+    let asked : next_of reader.first reader.total reader.rest.now ≡ stop_at bytes =
+    (λ i. next_of (t.sofar.first i) (t.sofar.total i) reader.rest.now) ∙ (λ i. next_of (still true (sym all i).entries) (length bytes) (sym all i).rest) in
+    record {
+      setup = t.first ∙ ap (λ l. setup_of l.entries) (sym all);
+      asks = t.asked ∙ ap (λ l. asks_of l.entries) (sym all);
+      stop = e ∙ ap stopped asked;
+    }
+
+-- the refusal at which reading stops
+pub stopped_at : (reader : Reader) (r : Refusal) → reading reader ≡ malformed → (refusal r).number ≡ 11 → refused_by (Some r) ≡ stopped (reading reader)
+stopped_at reader r is n = ap (λ q. Refused q ∷ []) (same_number r BadRecord n) ∙ sym (ap stopped is)

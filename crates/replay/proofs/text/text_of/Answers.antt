@@ -1,0 +1,46 @@
+-- No record, a setup that is refused, and a setup that is accepted.
+use Rattle.std.proofs.Common.{List, ◌∷◌, ◌++◌, Some, map, vec_items, string_bytes, sym, ap, ◌∙◌, append-nil, subst}
+use Rattle.std.proofs.lemmas.Result.{IfOk-weaker}
+use Rattle.basis.specs.declared.answer.Answer.TheVariants.{Ok, Refused}
+use Rattle.basis.specs.declared.refusal.Refusal.TheVariants.{WrongSizes}
+use Rattle.keys.specs.declared.sector.Sector.{Sector}
+use Rattle.list_law.specs.Performed.{Ask}
+use Rattle.list_driver.specs.Asks.{ask_of}
+use Rattle.schedule.specs.Lines.{line_of, lines_from}
+use Rattle.replay.specs.Runs.{Answered}
+use Rattle.replay.specs.Views.{refused_by}
+use Rattle.replay.proofs.Answering.{told_none, told_other, told_refused, told_accepted, at_none, at_some}
+use Rattle.replay.proofs.text.text_of.Goals as goal
+
+pub returns-in_default : goal.returns-in_default
+returns-in_default c =
+    let asks = map ask_of (vec_items c.args.calls.now.asks) in
+    IfOk-weaker c.text_of_none.result _ _ (λ text e. told_none c.args.calls.now.setup asks (refused_by c.args.calls.now.stop) (string_bytes text) c.in_default.is e) c.text_of_none.ensures
+
+pub returns-in_default-setup : goal.returns-in_default-setup
+returns-in_default-setup c =
+    told_other c.args.calls.now.setup c.in-Some.setup (map ask_of (vec_items c.args.calls.now.asks)) (refused_by c.args.calls.now.stop) _ c.in-Some.is c.in_default-setup.not-Setup c.new.ensures.bytes
+
+pub returns-in-None : goal.returns-in-None
+unfolding lines_from
+returns-in-None c =
+    let asks = map ask_of (vec_items c.args.calls.now.asks) in
+    let s = c.in-Setup in
+    let is = c.in-Some.is ∙ ap Some s.is in
+    let sizes = at_none c.in_ok-answers_by.field-0 _ _ c.in-None.is c.in_ok-answers_by.ensures in
+    IfOk-weaker c.line.result _ _
+    (λ text e. told_refused c.args.calls.now.setup s.scheme s.cells s.window is asks (refused_by c.args.calls.now.stop) (string_bytes text) sizes (e ∙ sym (append-nil (line_of 1 (Refused WrongSizes)))))
+    c.line.ensures
+
+pub returns-in-Some-2 : goal.returns-in-Some-2
+returns-in-Some-2 c =
+    let asks = map ask_of (vec_items c.args.calls.now.asks) in
+    let stop = refused_by c.args.calls.now.stop in
+    let s = c.in-Setup in
+    let is = c.in-Some.is ∙ ap Some s.is in
+    let answers = vec_items c.in-Some-2.answers in
+    let answered = at_some c.in_ok-answers_by.field-0 c.in-Some-2.answers _ _ c.in-Some-2.is c.in_ok-answers_by.ensures in
+    let asked = subst (λ (l : List (Ask Sector)). Answered s.scheme s.cells s.window l answers) (ap (map ask_of) c.as_slice.ensures.value) answered in
+    IfOk-weaker c.text_of_answers.result _ _
+    (λ text e. told_accepted c.args.calls.now.setup s.scheme s.cells s.window is asks stop (string_bytes text) answers asked (e ∙ ap (λ l. lines_from 1 (Ok ∷ (l ++ stop))) c.as_slice-in-Some-2.ensures.value))
+    c.text_of_answers.ensures

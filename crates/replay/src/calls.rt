@@ -1,0 +1,97 @@
+// What a schedule asks of the index.
+ghost use Rattle.std.specs.Prelude.{◌≡◌, ◌++◌, map, None, IfOk, OnOk};
+ghost use Rattle.schedule.specs.Reading.{open_refusal};
+ghost use Rattle.list_driver.specs.Asks.{ask_of};
+ghost use Rattle.replay.specs.Answers.{asked_by, first_of};
+ghost use Rattle.replay.specs.Views.{listed_ask, Says};
+
+use basis::refusal::Refusal;
+use keys::sector::Sector;
+use list_driver::driver::Ask;
+use list_window::turn::Request;
+use records::record::Record;
+use schedule::reader::{Outcome, Reader};
+use std::alloc::{AllocError, Global};
+
+// What a record asks, with interrupts open; a setup asks nothing.
+fn ask_by(content: Record) -> Option<Ask<Sector>>
+    ensures { listed_ask result ≡ asked_by content }
+{
+    let (seat, request) = match content {
+        Record::Setup { .. } => return None,
+        Record::Join { seat } => (seat, Request::Join),
+        Record::Leave { seat } => (seat, Request::Leave),
+        Record::Begin { kind, seat, sector } => {
+            let target = Sector { number: sector };
+            (seat, Request::Begin { kind, target })
+        }
+        Record::Step { seat } => (seat, Request::Step),
+        Record::Abandon { seat } => (seat, Request::Abandon),
+    };
+    let level = 0;
+    Some(Ask {
+        seat,
+        level,
+        request,
+    })
+}
+
+// One record more.
+fn push_ask(asks: &mut Vec<Ask<Sector>>, content: Record) -> Result<(), AllocError>
+    ensures { OnOk result (map ask_of asks.new.items ≡ map ask_of asks.old.items ++ asked_by content) }
+{
+    if let Some(ask) = ask_by(content) {
+        asks.push(ask)?;
+    }
+    Ok(())
+}
+
+// The first record of all: the one that was first so far, or else this one.
+fn first_of(first: Option<Record>, content: Record) -> Option<Record>
+    ensures { result ≡ first_of first content }
+{
+    match first {
+        None => Some(content),
+        Some(_) => first,
+    }
+}
+
+// What a schedule says: its setup, what the calls after it ask, and the refusal at which reading stopped, None where it came to the end.
+#[derive(Drop)]
+pub struct Calls {
+    pub setup: Option<Record>,
+    pub asks: Vec<Ask<Sector>>,
+    pub stop: Option<Refusal>,
+}
+
+// Everything that the reader hands out of these bytes, which are a schedule that is opened.
+pub fn read_calls(heap: Global, bytes: &[u8]) -> Result<Calls, AllocError>
+    ensures { IfOk result (λ c. open_refusal bytes.now ≡ None → Says bytes.now c) }
+{
+    // a record has four bytes at least
+    let mut asks = Vec::with_capacity(heap, bytes.len() / 4)?;
+    let mut setup = None;
+    let mut reader = match Reader::open(bytes) {
+        Ok(reader) => reader,
+        Err(refusal) => {
+            let stop = Some(refusal);
+            return Ok(Calls { setup, asks, stop });
+        }
+    };
+    loop {
+        match reader.next() {
+            Outcome::Handed(part) => {
+                setup = first_of(setup, part.content);
+                push_ask(&mut asks, part.content)?;
+            }
+            Outcome::Ended => {
+                let stop = None;
+                return Ok(Calls { setup, asks, stop });
+            }
+            Outcome::Refused(refusal) => {
+                let stop = Some(refusal);
+                return Ok(Calls { setup, asks, stop });
+            }
+        }
+    }
+}

@@ -1,0 +1,70 @@
+// The text that answers what a schedule says.
+ghost use Rattle.std.specs.Prelude.{◌≡◌, ◌∷◌, ◌++◌, map, IfOk, OnOk, string_bytes};
+ghost use Rattle.list_driver.specs.Asks.{ask_of};
+ghost use Rattle.schedule.specs.Lines.{line_of, lines_from};
+ghost use Rattle.replay.specs.Texts.{outcomes, Lawfully};
+ghost use Rattle.replay.specs.Views.{refused_by};
+
+use crate::calls::Calls;
+use crate::runs::answers_by;
+use basis::answer::Answer;
+use basis::refusal::Refusal;
+use records::record::Record;
+use schedule::lines::{line, push_line, push_lines};
+use std::alloc::{AllocError, Global};
+
+// Adds the line of the refusal at which reading stopped, if there is one.
+fn push_stop(text: &mut String, number: usize, stop: Option<Refusal>) -> Result<(), AllocError>
+    ensures { OnOk result (string_bytes text.new ≡ string_bytes text.old ++ lines_from number (refused_by stop)) }
+{
+    match stop {
+        None => Ok(()),
+        Some(refusal) => push_line(text, number, Answer::Refused(refusal)),
+    }
+}
+
+// A schedule with no record is answered by the refusal at which reading stopped, if there is one.
+fn text_of_none(heap: Global, stop: Option<Refusal>) -> Result<String, AllocError>
+    ensures { IfOk result (λ text. string_bytes text ≡ lines_from 1 (refused_by stop)) }
+{
+    let mut text = String::new(heap);
+    push_stop(&mut text, 1, stop)?;
+    Ok(text)
+}
+
+// An accepted setup, the answers of the calls, and the refusal at which reading stopped.
+fn text_of_answers(
+    heap: Global,
+    answers: &[Answer],
+    stop: Option<Refusal>,
+) -> Result<String, AllocError>
+    ensures { IfOk result (λ text. string_bytes text ≡ lines_from 1 (Answer.Ok ∷ (answers.now ++ refused_by stop))) }
+{
+    // room for lines of the usual length
+    let mut text = String::with_capacity(heap, answers.len().saturating_mul(12))?;
+    push_line(&mut text, 1, Answer::Ok)?;
+    push_lines(&mut text, 2, answers)?;
+    push_stop(&mut text, answers.len() + 2, stop)?;
+    Ok(text)
+}
+
+// The text that answers a schedule.
+pub fn text_of(heap: Global, calls: &Calls) -> Result<String, AllocError>
+    ensures { IfOk result (λ text. (string_bytes text ≡ lines_from 1 (outcomes calls.now.setup (map ask_of calls.now.asks.items) (refused_by calls.now.stop))) × Lawfully calls.now.setup (map ask_of calls.now.asks.items)) }
+{
+    let Some(setup) = calls.setup else {
+        return text_of_none(heap, calls.stop);
+    };
+    let Record::Setup {
+        scheme,
+        cells,
+        window,
+    } = setup
+    else {
+        return Ok(String::new(heap));
+    };
+    match answers_by(heap, scheme, cells, window, calls.asks.as_slice())? {
+        None => line(heap, 1, Answer::Refused(Refusal::WrongSizes)),
+        Some(answers) => text_of_answers(heap, answers.as_slice(), calls.stop),
+    }
+}

@@ -1,7 +1,0 @@
-use Rattle.std.proofs.Common.{◌≡◌, take, string_bytes}
-use Rattle.schedule.specs.Lines.{lines_from}
-use Rattle.schedule.proofs.lines.lines.Given as goal
-
--- the lines of the answers so far
-abbrev pub invariant-loop-index : goal.invariant-loop-index
-invariant-loop-index l = string_bytes l.text ≡ lines_from 1 (take l.index l.answers)
