@@ -1,2 +1,3 @@
+pub mod Links
 pub mod Viewed
 pub mod Walks

@@ -2,6 +2,7 @@
 use Rattle.std.specs.Prelude.{◌≡◌, List, map, Option}
 use Rattle.std.specs.Option.{option_map}
 use Rattle.marks.specs.Marks.{numbered}
+use Rattle.list_cells.specs.Links.{place_named}
 use Rattle.list_cells.specs.declared.cell.Cell as declared
 use Rattle.list_cells.specs.declared.cell.Anchor as declared-anchor
 use Rattle.list_cells.specs.declared.walk.Met as declared-met
@@ -10,7 +11,7 @@ use Rattle.list_law.specs.Call as call
 
 -- a cell, with its link by number
 abbrev pub cell_of : {K : Type 0} → declared.Cell K → call.Cell K
-cell_of c = call.cell c.key (numbered c.link) c.listed
+cell_of c = call.cell c.key (place_named c.link) c.listed
 
 abbrev pub found_of : {K : Type 0} → Option (declared.Cell K) → Option (call.Cell K)
 found_of o = option_map cell_of o

@@ -1,12 +1,29 @@
 // What the caller lends: cells and the anchor.
-use basis::place::Place;
+ghost use Rattle.std.specs.Prelude.{◌≡◌};
+ghost use Rattle.marks.specs.Marks.{numbered};
+ghost use Rattle.list_law.specs.Call.{cell};
+ghost use Rattle.list_cells.specs.Views.{cell_of};
 
-// A cell: a key, the link to the next cell (none at the end of a chain), and whether it is listed; else it is free.
+use crate::link::Link;
+use basis::place::Place;
+use keys::key::Key;
+
+// A cell: a key, the link to the next cell or the end of its chain, and whether it is listed; else it is free.
 #[derive(Clone, Copy)]
 pub struct Cell<K> {
     pub key: K,
-    pub link: Option<Place>,
+    pub link: Link,
     pub listed: bool,
+}
+
+impl<K: Key> Cell<K> {
+    // A cell with that key and flag, linked to a place or, where there is none, at the end of its chain.
+    pub fn new(key: K, link: Option<Place>, listed: bool) -> Cell<K>
+        ensures { cell_of result ≡ cell key (numbered link) listed }
+    {
+        let link = Link::new(link);
+        Cell { key, link, listed }
+    }
 }
 
 // Where an index begins: how many cells it has, how many cells a window may meet, the first listed cell and the first free one.

@@ -2,5 +2,6 @@
 #![tactic(auto)]
 
 pub mod cell;
+pub mod link;
 pub mod memory;
 pub mod walk;

@@ -24,9 +24,7 @@ fn put_link<K: Key>(cells: &mut [Cell<K>], place: Place, link: Option<Place>)
     ensures { map cell_of cells.new ≡ rewritten (map cell_of cells.old) place.number (linked (numbered link)) }
 {
     if let Some(cell) = cell_at(cells, place) {
-        let key = cell.key;
-        let listed = cell.listed;
-        store(cells, place, Cell { key, link, listed });
+        store(cells, place, Cell::new(cell.key, link, cell.listed));
     }
 }
 
@@ -96,7 +94,6 @@ pub fn link_in<K: Key>(
     ensures sizes { SameSizes anchor.old anchor.new }
 {
     anchor.free = rest;
-    let listed = true;
-    store(cells, place, Cell { key, link, listed });
+    store(cells, place, Cell::new(key, link, true));
     set_lead(cells, anchor, lead, Some(place));
 }

@@ -54,7 +54,7 @@ pub fn cell_at<K: Key>(cells: &[Cell<K>], place: Place) -> Option<Cell<K>>
 fn judge<K: Key>(cell: Cell<K>, target: K, lead: Option<Place>, place: Place) -> Met
     ensures { met_of result ≡ met K.Key.below target (numbered lead) place.number (Some (cell_of cell)) }
 {
-    let link = cell.link;
+    let link = cell.link.place();
     if !cell.listed {
         return Met::Bad;
     }
@@ -111,7 +111,7 @@ fn walk_links<K: Key>(
             return judge(cell, target, lead, place);
         }
         lead = Some(place);
-        link = cell.link;
+        link = cell.link.place();
     }
     follow(cells, target, lead, link)
 }
@@ -133,7 +133,7 @@ pub fn walk_from<K: Key>(
         None => Met::Bad,
         Some(cell) => {
             if cell.listed {
-                walk_links(cells, target, room, mark, cell.link)
+                walk_links(cells, target, room, mark, cell.link.place())
             } else {
                 Met::Bad
             }

@@ -45,9 +45,7 @@ fn clear_rows<K: Key>(rows: &mut [Row<K>])
 fn freed_cell<K: Key>(given: Cell<K>, link: Option<Place>) -> Cell<K>
     ensures { cell_of result ≡ cell given.key (numbered link) false }
 {
-    let key = given.key;
-    let listed = false;
-    Cell { key, link, listed }
+    Cell::new(given.key, link, false)
 }
 
 // The cell at that index, as it is given.

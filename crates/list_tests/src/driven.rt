@@ -175,9 +175,7 @@ fn wear_keys_on_every_scheme(rt: HostRuntime) -> Result<(), Fail> {
         Wear::new(2875, 0)?,
         Wear::new(2875, 1)?,
     );
-    let link = None;
-    let listed = false;
-    let mut cells = [Cell { key, link, listed }; 3];
+    let mut cells = [Cell::new(key, None, false); 3];
     let mut rows = [Row { doing: Doing::Idle }; 16];
     check_schemes(&rt, &mut cells, &mut rows, &asks)
 }

@@ -60,11 +60,7 @@ pub(crate) fn number_of(link: Option<Place>) -> Option<u16> {
 }
 
 pub(crate) fn cell(number: u32, link: Option<u16>, listed: bool) -> Cell<Sector> {
-    Cell {
-        key: Sector { number },
-        link: link_to(link),
-        listed,
-    }
+    Cell::new(Sector { number }, link_to(link), listed)
 }
 
 pub(crate) fn away() -> [Row<Sector>; 16] {
@@ -87,7 +83,7 @@ fn show_row(row: Row<Sector>) -> Shown {
 }
 
 fn show_cell(cell: Cell<Sector>) -> (u32, Option<u16>, bool) {
-    (cell.key.number, number_of(cell.link), cell.listed)
+    (cell.key.number, number_of(cell.link.place()), cell.listed)
 }
 
 impl Lent {

@@ -26,11 +26,7 @@ fn blank_cells(heap: Global, count: u16) -> Result<Vec<Cell<Sector>>, AllocError
 {
     let mut cells = Vec::with_capacity(heap, count as usize)?;
     for _ in 0..count {
-        cells.push(Cell {
-            key: Sector { number: 0 },
-            link: None,
-            listed: false,
-        })?;
+        cells.push(Cell::new(Sector { number: 0 }, None, false))?;
     }
     Ok(cells)
 }

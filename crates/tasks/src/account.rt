@@ -104,7 +104,7 @@ fn print_list(rt: &HostRuntime, cells: [Cell<Wear>; 8], head: Option<Place>) -> 
         let count = cell.key.count;
         let block = cell.key.block;
         print!(rt; " {count}/{block} in {at}")?;
-        link = cell.link;
+        link = cell.link.place();
     }
     println!(rt; "")
 }

@@ -24,11 +24,7 @@ fn run(lines: &mut [Line]) -> Result<(), Refusal> {
     let bit = BankBit::new(0)?;
     let banks = Pair::new(Full::new(), Full::new(), bit);
     let key = Wear { count: 0, block: 0 };
-    let cell = Cell {
-        key,
-        link: None,
-        listed: false,
-    };
+    let cell = Cell::new(key, None, false);
     run_tasks([cell; 8], banks, 2, 4, 5, lines)
 }
 

@@ -1,7 +1,8 @@
 -- Each turn passes one cell more; where a cell is not passed, the walk ends.
-use Rattle.std.proofs.Common.{◌≡◌, ℕ, map, sym, ap, ◌∙◌, arith}
+use Rattle.std.proofs.Common.{◌≡◌, ℕ, ◌+◌, ◌-◌, Some, map, sym, ap, ◌∙◌, arith}
 use Rattle.marks.specs.Marks.{numbered}
-use Rattle.list_law.specs.Call.{look, met, absent, bad}
+use Rattle.list_law.specs.Call.{look, walk, met, absent, bad}
+use Rattle.list_cells.specs.Links.{place_named}
 use Rattle.list_cells.specs.Views.{cell_of}
 use Rattle.list_cells.proofs.Walks.{walk_on, walk_ends, walk_last, passed_here, ends_here}
 use Rattle.list_cells.proofs.walk.walk_links.Goals as goal
@@ -14,8 +15,10 @@ loop-passed-preserved g c =
     let x = c.args.target in
     let cell = c.in-Some-cell_at.cell in
     let place = c.in-Some.place.number in
-    walk_on below cells x c.args.room l._passed (numbered l.lead) (numbered l.link) place (numbered cell.link) c.loop-passed-test.true
-    (passed_here below cells x (numbered l.lead) place (cell_of cell) c.in-Some-cell_at.ensures (sym c.if-not-passes.ensures) ∙ ap (λ o. look below cells x (numbered l.lead) (numbered o)) (sym c.in-Some.is))
+    let lead = numbered l.lead in
+    ap (walk below cells x (c.args.room - (l._passed + 1)) (Some place)) c.place-link.ensures
+    ∙ walk_on below cells x c.args.room l._passed lead (numbered l.link) place (place_named cell.link) c.loop-passed-test.true
+    (passed_here below cells x lead place (cell_of cell) c.in-Some-cell_at.ensures (sym c.if-not-passes.ensures) ∙ ap (λ o. look below cells x lead (numbered o)) (sym c.in-Some.is))
     ∙ l.invariant
 
 pub returns-in_default : goal.returns-in_default

@@ -12,7 +12,9 @@ loop-init c = ap (map cell_of) c.in_ok-cells.ensures.items
 
 pub loop-preserved : goal.loop-preserved
 loop-preserved c =
-    ap (map cell_of) c.in_ok-push.ensures.items ∙ map_push cell_of (vec_items c.loop.cells) _ ∙ ap (λ l. l ++ cell (sector 0) None false ∷ []) c.loop.invariant ∙ replicate_more c.loop.counter (cell (sector 0) None false)
+    let cells = map cell_of (vec_items c.loop.cells) in
+    ap (map cell_of) c.in_ok-push.ensures.items ∙ map_push cell_of (vec_items c.loop.cells) c.new.result ∙ ap (λ x. cells ++ x ∷ []) c.new.ensures
+    ∙ ap (λ l. l ++ cell (sector 0) None false ∷ []) c.loop.invariant ∙ replicate_more c.loop.counter (cell (sector 0) None false)
 
 pub returns : goal.returns
 returns c = let all : c.loop.counter ≡ c.args.count = omega arith in c.loop.invariant ∙ ap blank all

@@ -21,8 +21,8 @@ loop-index-preserved c =
     ∙ ap (λ t. t ++ line_of number (get_or answers at No)) c.loop-index.invariant
     ∙ append_assoc before (lines_from first (take at answers)) (line_of number (get_or answers at No))
     ∙ ap (λ t. before ++ t) (
-      sym (lines_more first (take at answers) (get_or answers at No) number (omega (arith, length-take-le at answers (omega arith))))
-      ∙ ap (lines_from first) (sym (take_more answers at No (omega arith)))
+    sym (lines_more first (take at answers) (get_or answers at No) number (omega (arith, length-take-le at answers (omega arith))))
+    ∙ ap (lines_from first) (sym (take_more answers at No (omega arith)))
     )
 
 pub returns : goal.returns

@@ -1,0 +1,39 @@
+// The link that a cell keeps.
+ghost use Rattle.std.specs.Prelude.{◌≡◌};
+ghost use Rattle.marks.specs.Marks.{numbered};
+ghost use Rattle.list_cells.specs.Links.{place_named};
+
+use basis::place::Place;
+
+// The number of no place, which stands for the end of a chain.
+const END: u16 = 1008;
+
+// A place or the end, in the two bytes of a number, so that a cell with a sector takes eight.
+#[derive(Clone, Copy)]
+pub struct Link {
+    number: u16,
+}
+
+impl Link {
+    // The link to a place, or the end.
+    pub fn new(place: Option<Place>) -> Link
+        ensures { place_named result ≡ numbered place }
+    {
+        match place {
+            None => Link { number: END },
+            Some(place) => Link {
+                number: place.number(),
+            },
+        }
+    }
+
+    // The place that this link leads to, if it is not the end.
+    pub fn place(self) -> Option<Place>
+        ensures { numbered result ≡ place_named self }
+    {
+        match Place::new(self.number) {
+            Ok(place) => Some(place),
+            Err(_) => None,
+        }
+    }
+}
