@@ -1,5 +1,6 @@
 -- What lent cells and anchor hold, as the definitions of one call have it. Assumes nothing.
 use Rattle.std.specs.Prelude.{◌≡◌, List, map, Option}
+use Rattle.std.specs.Borrow.{Bor}
 use Rattle.std.specs.Option.{option_map}
 use Rattle.marks.specs.Marks.{numbered}
 use Rattle.list_cells.specs.Links.{place_named}
@@ -13,8 +14,8 @@ use Rattle.list_law.specs.Call as call
 abbrev pub cell_of : {K : Type 0} → declared.Cell K → call.Cell K
 cell_of c = call.cell c.key (place_named c.link) c.listed
 
-abbrev pub found_of : {K : Type 0} → Option (declared.Cell K) → Option (call.Cell K)
-found_of o = option_map cell_of o
+abbrev pub found_of : {K : Type 0} → Option (Bor (declared.Cell K)) → Option (call.Cell K)
+found_of o = option_map (λ b. cell_of b.now) o
 
 -- where a walk ended, by numbers
 abbrev pub met_of : declared-met.Met → call.Met

@@ -24,7 +24,8 @@ fn put_link<K: Key>(cells: &mut [Cell<K>], place: Place, link: Option<Place>)
     ensures { map cell_of cells.new ≡ rewritten (map cell_of cells.old) place.number (linked (numbered link)) }
 {
     if let Some(cell) = cell_at(cells, place) {
-        store(cells, place, Cell::new(cell.key, link, cell.listed));
+        let linked = Cell::new(cell.key, link, cell.listed);
+        store(cells, place, linked);
     }
 }
 

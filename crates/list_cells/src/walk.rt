@@ -3,9 +3,11 @@ ghost use Rattle.std.specs.Prelude.{◌≡◌, pred, ◌&&◌, map, Some};
 ghost use Rattle.std.specs.List.{slice_get};
 ghost use Rattle.marks.specs.Marks.{numbered};
 ghost use Rattle.list_law.specs.Call.{met, look, walk, walked};
+ghost use Rattle.list_cells.specs.Links.{place_named};
 ghost use Rattle.list_cells.specs.Views.{cell_of, found_of, met_of};
 
 use crate::cell::Cell;
+use crate::link::Link;
 use basis::place::Place;
 use keys::key::Key;
 
@@ -33,26 +35,26 @@ pub enum Met {
 }
 
 // The cell of that number, if there is one.
-fn cell_numbered<K: Key>(cells: &[Cell<K>], at: usize) -> Option<Cell<K>>
+fn cell_numbered<K: Key>(cells: &[Cell<K>], at: usize) -> Option<&Cell<K>>
     ensures { found_of result ≡ slice_get (map cell_of cells.now) at }
 {
     if at < cells.len() {
-        Some(cells[at])
+        Some(&cells[at])
     } else {
         None
     }
 }
 
 // The cell at a place, if there is one.
-pub fn cell_at<K: Key>(cells: &[Cell<K>], place: Place) -> Option<Cell<K>>
+pub fn cell_at<K: Key>(cells: &[Cell<K>], place: Place) -> Option<&Cell<K>>
     ensures { found_of result ≡ slice_get (map cell_of cells.now) place.number }
 {
     cell_numbered(cells, place.number() as usize)
 }
 
 // What the cell at a place is to a walk that was led there.
-fn judge<K: Key>(cell: Cell<K>, target: K, lead: Option<Place>, place: Place) -> Met
-    ensures { met_of result ≡ met K.Key.below target (numbered lead) place.number (Some (cell_of cell)) }
+fn judge<K: Key>(cell: &Cell<K>, target: K, lead: Option<Place>, place: Place) -> Met
+    ensures { met_of result ≡ met K.Key.below target (numbered lead) place.number (Some (cell_of cell.now)) }
 {
     let link = cell.link.place();
     if !cell.listed {
@@ -82,8 +84,8 @@ fn follow<K: Key>(cells: &[Cell<K>], target: K, lead: Option<Place>, link: Optio
 }
 
 // Whether a walk to the target goes on behind this cell: it is listed, and its key is below the target.
-fn passes<K: Key>(cell: Cell<K>, target: K) -> bool
-    ensures { result ≡ (cell.listed && K.Key.below cell.key target) }
+fn passes<K: Key>(cell: &Cell<K>, target: K) -> bool
+    ensures { result ≡ (cell.now.listed && K.Key.below cell.now.key target) }
 {
     cell.listed && cell.key.is_below(target)
 }
@@ -94,15 +96,15 @@ fn walk_links<K: Key>(
     target: K,
     room: u8,
     lead: Option<Place>,
-    link: Option<Place>,
+    link: Link,
 ) -> Met
-    ensures { met_of result ≡ walk K.Key.below (map cell_of cells.now) target room (numbered lead) (numbered link) }
+    ensures { met_of result ≡ walk K.Key.below (map cell_of cells.now) target room (numbered lead) (place_named link) }
 {
     let mut lead = lead;
     let mut link = link;
     for _passed in 0..room {
-        let Some(place) = link else {
-            return Met::Absent { lead, link };
+        let Some(place) = link.place() else {
+            return Met::Absent { lead, link: None };
         };
         let Some(cell) = cell_at(cells, place) else {
             return Met::Bad;
@@ -111,9 +113,9 @@ fn walk_links<K: Key>(
             return judge(cell, target, lead, place);
         }
         lead = Some(place);
-        link = cell.link.place();
+        link = cell.link;
     }
-    follow(cells, target, lead, link)
+    follow(cells, target, lead, link.place())
 }
 
 // The walk of a window: from behind the marked cell, which must be a listed one, or from the head.
@@ -127,13 +129,13 @@ pub fn walk_from<K: Key>(
     ensures { met_of result ≡ walked K.Key.below (map cell_of cells.now) (numbered head) target room (numbered mark) }
 {
     let Some(place) = mark else {
-        return walk_links(cells, target, room, None, head);
+        return walk_links(cells, target, room, None, Link::new(head));
     };
     match cell_at(cells, place) {
         None => Met::Bad,
         Some(cell) => {
             if cell.listed {
-                walk_links(cells, target, room, mark, cell.link.place())
+                walk_links(cells, target, room, mark, cell.link)
             } else {
                 Met::Bad
             }

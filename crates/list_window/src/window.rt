@@ -92,7 +92,8 @@ fn insert_at<K: Key, S: Scheme>(
     if cell.listed {
         return Answer::Refused(Refusal::BadLink);
     }
-    link_in(cells, anchor, lead, link, target, place, cell.link.place());
+    let rest = cell.link.place();
+    link_in(cells, anchor, lead, link, target, place, rest);
     end_operation(cells, rows, anchor, scheme, seat, Answer::Yes)
 }
 
