@@ -33,5 +33,5 @@ pub fn replay(heap: Global, bytes: &[u8]) -> Result<String, AllocError>
         return open_line(heap, refusal);
     }
     let calls = read_calls(heap, bytes)?;
-    text_of(heap, &calls)
+    text_of(heap, calls)
 }

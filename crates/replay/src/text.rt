@@ -49,11 +49,12 @@ fn text_of_answers(
 }
 
 // The text that answers a schedule.
-pub fn text_of(heap: Global, calls: &Calls) -> Result<String, AllocError>
-    ensures { IfOk result (λ text. (string_bytes text ≡ lines_from 1 (outcomes calls.now.setup (map ask_of calls.now.asks.items) (refused_by calls.now.stop))) × Lawfully calls.now.setup (map ask_of calls.now.asks.items)) }
+pub fn text_of(heap: Global, calls: Calls) -> Result<String, AllocError>
+    ensures { IfOk result (λ text. (string_bytes text ≡ lines_from 1 (outcomes calls.setup (map ask_of calls.asks.items) (refused_by calls.stop))) × Lawfully calls.setup (map ask_of calls.asks.items)) }
 {
-    let Some(setup) = calls.setup else {
-        return text_of_none(heap, calls.stop);
+    let Calls { setup, asks, stop } = calls;
+    let Some(setup) = setup else {
+        return text_of_none(heap, stop);
     };
     let Record::Setup {
         scheme,
@@ -63,8 +64,11 @@ pub fn text_of(heap: Global, calls: &Calls) -> Result<String, AllocError>
     else {
         return Ok(String::new(heap));
     };
-    match answers_by(heap, scheme, cells, window, calls.asks.as_slice())? {
+    let answers = answers_by(heap, scheme, cells, window, asks.as_slice())?;
+    // the room of what was asked is given back before room for the text is taken
+    drop(asks);
+    match answers {
         None => line(heap, 1, Answer::Refused(Refusal::WrongSizes)),
-        Some(answers) => text_of_answers(heap, answers.as_slice(), calls.stop),
+        Some(answers) => text_of_answers(heap, answers.as_slice(), stop),
     }
 }

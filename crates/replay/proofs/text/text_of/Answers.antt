@@ -14,33 +14,33 @@ use Rattle.replay.proofs.text.text_of.Goals as goal
 
 pub returns-in_default : goal.returns-in_default
 returns-in_default c =
-    let asks = map ask_of (vec_items c.args.calls.now.asks) in
-    IfOk-weaker c.text_of_none.result _ _ (λ text e. told_none c.args.calls.now.setup asks (refused_by c.args.calls.now.stop) (string_bytes text) c.in_default.is e) c.text_of_none.ensures
+    let asks = map ask_of (vec_items c.args.calls.asks) in
+    IfOk-weaker c.text_of_none.result _ _ (λ text e. told_none c.args.calls.setup asks (refused_by c.args.calls.stop) (string_bytes text) c.in_default.is e) c.text_of_none.ensures
 
 pub returns-in_default-setup : goal.returns-in_default-setup
 returns-in_default-setup c =
-    told_other c.args.calls.now.setup c.in-Some.setup (map ask_of (vec_items c.args.calls.now.asks)) (refused_by c.args.calls.now.stop) _ c.in-Some.is c.in_default-setup.not-Setup c.new.ensures.bytes
+    told_other c.args.calls.setup c.in-Some.setup (map ask_of (vec_items c.args.calls.asks)) (refused_by c.args.calls.stop) _ c.in-Some.is c.in_default-setup.not-Setup c.new.ensures.bytes
 
 pub returns-in-None : goal.returns-in-None
 unfolding lines_from
 returns-in-None c =
-    let asks = map ask_of (vec_items c.args.calls.now.asks) in
+    let asks = map ask_of (vec_items c.args.calls.asks) in
     let s = c.in-Setup in
     let is = c.in-Some.is ∙ ap Some s.is in
-    let sizes = at_none c.in_ok-answers_by.field-0 _ _ c.in-None.is c.in_ok-answers_by.ensures in
+    let sizes = at_none c.in_ok-answers.answers _ _ c.in-None.is c.in_ok-answers.ensures in
     IfOk-weaker c.line.result _ _
-    (λ text e. told_refused c.args.calls.now.setup s.scheme s.cells s.window is asks (refused_by c.args.calls.now.stop) (string_bytes text) sizes (e ∙ sym (append-nil (line_of 1 (Refused WrongSizes)))))
+    (λ text e. told_refused c.args.calls.setup s.scheme s.cells s.window is asks (refused_by c.args.calls.stop) (string_bytes text) sizes (e ∙ sym (append-nil (line_of 1 (Refused WrongSizes)))))
     c.line.ensures
 
-pub returns-in-Some-2 : goal.returns-in-Some-2
-returns-in-Some-2 c =
-    let asks = map ask_of (vec_items c.args.calls.now.asks) in
-    let stop = refused_by c.args.calls.now.stop in
+pub returns-in-Some-answers : goal.returns-in-Some-answers
+returns-in-Some-answers c =
+    let asks = map ask_of (vec_items c.args.calls.asks) in
+    let stop = refused_by c.args.calls.stop in
     let s = c.in-Setup in
     let is = c.in-Some.is ∙ ap Some s.is in
-    let answers = vec_items c.in-Some-2.answers in
-    let answered = at_some c.in_ok-answers_by.field-0 c.in-Some-2.answers _ _ c.in-Some-2.is c.in_ok-answers_by.ensures in
+    let answers = vec_items c.in-Some-answers.answers in
+    let answered = at_some c.in_ok-answers.answers c.in-Some-answers.answers _ _ c.in-Some-answers.is c.in_ok-answers.ensures in
     let asked = subst (λ (l : List (Ask Sector)). Answered s.scheme s.cells s.window l answers) (ap (map ask_of) c.as_slice.ensures.value) answered in
     IfOk-weaker c.text_of_answers.result _ _
-    (λ text e. told_accepted c.args.calls.now.setup s.scheme s.cells s.window is asks stop (string_bytes text) answers asked (e ∙ ap (λ l. lines_from 1 (Ok ∷ (l ++ stop))) c.as_slice-in-Some-2.ensures.value))
+    (λ text e. told_accepted c.args.calls.setup s.scheme s.cells s.window is asks stop (string_bytes text) answers asked (e ∙ ap (λ l. lines_from 1 (Ok ∷ (l ++ stop))) c.as_slice-in-Some-answers.ensures.value))
     c.text_of_answers.ensures
