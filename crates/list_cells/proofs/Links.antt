@@ -1,7 +1,6 @@
 -- Which number of a link is a place. Assumes nothing.
-use Rattle.std.proofs.Common.{◌≡◌, ℕ, ◌<◌, ◌≤◌, Some, None, Option, arith}
+use Rattle.std.proofs.Common.{◌≡◌, ℕ, ◌<◌, ◌≤◌, Some, None, arith}
 use Rattle.std.proofs.lemmas.Bool.Decides.{nat_tests}
-use Rattle.list_cells.specs.declared.link.Link.{Link}
 use Rattle.list_cells.specs.Links.{place_named}
 
 pub named_there : (n : ℕ) → n < 1008 → place_named record { number = n } ≡ Some n

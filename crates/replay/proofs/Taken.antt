@@ -1,5 +1,5 @@
 -- What was read of a schedule so far: its first record, and what its records ask. Assumes nothing.
-use Rattle.std.proofs.Common.{◌≡◌, ℕ, List, [], ◌∷◌, ◌++◌, true, Some, None, Option, vec_items, map, length, refl, sym, ap, ◌∙◌, append_assoc, append-nil, arith}
+use Rattle.std.proofs.Common.{◌≡◌, ℕ, List, [], ◌∷◌, ◌++◌, true, Some, None, Option, vec_items, map, length, refl, sym, ap, ◌∙◌, append_assoc, append-nil}
 use Rattle.basis.specs.declared.refusal.Refusal.{Refusal}
 use Rattle.basis.specs.declared.refusal.Refusal.TheVariants.{BadRecord}
 use Rattle.basis.specs.declared.answer.Answer.TheVariants.{Refused}
@@ -11,8 +11,8 @@ use Rattle.list_driver.specs.Asks.{ask_of}
 use Rattle.records.specs.declared.record.Record.{Record}
 use Rattle.schedule.specs.declared.reader.Part.{Part}
 use Rattle.schedule.specs.declared.reader.Reader.{Reader}
-use Rattle.schedule.specs.Reading.{Entry, Reading, handed, ended, malformed, reading, next_of}
-use Rattle.schedule.specs.Schedules.{read_all, still, Stops}
+use Rattle.schedule.specs.Reading.{Entry, malformed, reading, next_of}
+use Rattle.schedule.specs.Schedules.{still, Stops}
 use Rattle.schedule.specs.Whole.{seen}
 use Rattle.schedule.proofs.Sofar.{Sofar, Gave, sofar_more, sofar_all}
 use Rattle.replay.specs.declared.calls.Calls.{Calls}

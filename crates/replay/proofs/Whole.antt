@@ -1,5 +1,5 @@
 -- A whole schedule: what it says, and its text. Assumes nothing.
-use Rattle.std.proofs.Common.{◌≡◌, ℕ, List, ◌++◌, map, Some, None, vec_items, Option, sym, ap, ◌∙◌, subst, arith, w8, Fits, get_or}
+use Rattle.std.proofs.Common.{◌≡◌, ℕ, List, map, Some, None, vec_items, Option, sym, ap, ◌∙◌, subst, arith, w8, Fits, get_or}
 use Rattle.basis.specs.declared.refusal.Refusal.{Refusal}
 use Rattle.basis.specs.declared.answer.Answer.TheVariants.{Refused}
 use Rattle.basis.specs.Refusals.{refusal}
@@ -10,8 +10,8 @@ use Rattle.schedule.specs.Lines.{line_of, lines_from}
 use Rattle.schedule.proofs.Sofar.{bytes_typed}
 use Rattle.schedule.proofs.Trips.{nothing_lost}
 use Rattle.replay.specs.declared.calls.Calls.{Calls}
-use Rattle.replay.specs.Answers.{asks_of, setup_of}
-use Rattle.replay.specs.Texts.{stopped, outcomes, stop_at, opened_text, text_of, Lawfully, Replayed}
+use Rattle.replay.specs.Answers.{asks_of}
+use Rattle.replay.specs.Texts.{outcomes, opened_text, text_of, Lawfully, Replayed}
 use Rattle.replay.specs.Views.{refused_by, Says}
 use Rattle.replay.proofs.Answering.{Told}
 

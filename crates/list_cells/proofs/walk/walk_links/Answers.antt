@@ -1,7 +1,7 @@
 -- Each turn passes one cell more; where a cell is not passed, the walk ends.
 use Rattle.std.proofs.Common.{◌≡◌, ℕ, Some, None, Option, map, sym, ap, ◌∙◌, arith}
 use Rattle.marks.specs.Marks.{numbered}
-use Rattle.list_law.specs.Call.{look, met, absent, bad}
+use Rattle.list_law.specs.Call.{look, met, bad}
 use Rattle.list_cells.specs.Links.{place_named}
 use Rattle.list_cells.specs.Views.{cell_of}
 use Rattle.list_cells.proofs.Walks.{walk_on, walk_ends, walk_last, passed_here, ends_here}

@@ -1,5 +1,5 @@
 -- Each turn hands out one record more, and leaves fewer bytes.
-use Rattle.std.proofs.Common.{map, vec_items, sym, refl, ap, ◌∙◌, subst, arith}
+use Rattle.std.proofs.Common.{map, sym, ap, subst, arith}
 use Rattle.list_driver.specs.Asks.{ask_of}
 use Rattle.schedule.specs.Schedules.{Stops}
 use Rattle.schedule.proofs.Askings.{next_handed}

@@ -1,4 +1,4 @@
-use Rattle.std.proofs.Common.{[], ◌++◌, string_bytes, sym, ap, ◌∙◌, append-nil}
+use Rattle.std.proofs.Common.{◌++◌, string_bytes, sym, ap, ◌∙◌, append-nil}
 use Rattle.std.proofs.lemmas.Result.{on_ok_weaker}
 use Rattle.basis.specs.declared.answer.Answer.TheVariants.{Refused}
 use Rattle.schedule.specs.Lines.{line_of, lines_from}

@@ -1,5 +1,5 @@
 -- The line of the setup, those of the calls, and that of the refusal at which reading stopped.
-use Rattle.std.proofs.Common.{◌+◌, [], ◌∷◌, ◌++◌, length, string_bytes, sym, ap, ◌∙◌, append_assoc, arith}
+use Rattle.std.proofs.Common.{◌+◌, ◌++◌, length, sym, ap, ◌∙◌, append_assoc, arith}
 use Rattle.basis.specs.declared.answer.Answer.TheVariants.{Ok}
 use Rattle.schedule.specs.Lines.{line_of, lines_from}
 use Rattle.schedule.proofs.Numbered.{lines_join}

@@ -1,5 +1,4 @@
-use Rattle.std.proofs.Common.{◌≡◌, ℕ, ◌<◌, Some, None, sym, ap, ◌∙◌, lit≤, arith}
-use Rattle.std.proofs.lemmas.Grind.{common_steps}
+use Rattle.std.proofs.Common.{sym, ap, ◌∙◌, lit≤}
 use Rattle.marks.specs.Marks.{numbered}
 use Rattle.list_cells.specs.Links.{place_named}
 use Rattle.list_cells.proofs.Links.{named_there, named_end}

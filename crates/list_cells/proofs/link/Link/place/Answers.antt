@@ -1,5 +1,4 @@
 use Rattle.std.proofs.Common.{Some, sym, ap, ◌∙◌, subst, ◌<◌}
-use Rattle.list_cells.specs.Links.{place_named}
 use Rattle.list_cells.proofs.Links.{named_there, named_end}
 use Rattle.list_cells.proofs.link.Link.place.Goals as goal
 
