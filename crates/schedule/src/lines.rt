@@ -59,12 +59,3 @@ pub fn line(heap: Global, number: usize, answer: Answer) -> Result<String, Alloc
     push_line(&mut text, number, answer)?;
     Ok(text)
 }
-
-// The lines of answers one after another, numbered from 1.
-pub fn lines(heap: Global, answers: &[Answer]) -> Result<String, AllocError>
-    ensures { IfOk result (λ text. string_bytes text ≡ lines_from 1 answers.now) }
-{
-    let mut text = String::new(heap);
-    push_lines(&mut text, 1, answers)?;
-    Ok(text)
-}
