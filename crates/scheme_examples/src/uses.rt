@@ -1,11 +1,13 @@
 // The generic code, used at each scheme: what it promises of any one is enough to know each of them exactly.
 ghost use Rattle.std.specs.Prelude.{◌≡◌, true, [], ◌∷◌, if◌then◌else◌, Some, None, nat_eq};
-ghost use Rattle.marks.specs.Meaning.Order.{release, reserve};
+ghost use Rattle.marks.specs.Meaning.{Along};
+ghost use Rattle.marks.specs.Meaning.Order.{release, reserve, revoke};
 ghost use Rattle.marks.specs.Marks.{numbered};
 ghost use Rattle.marks.specs.Full.{full_state, full_act, full_get};
 ghost use Rattle.marks.specs.Owner.{owner_state, owner_act};
 ghost use Rattle.marks.specs.Version.{version_state, version_act};
 ghost use Rattle.marks.specs.Pair.{uses_second};
+ghost use Rattle.scheme_examples.specs.Nested.{nested_acts};
 
 use crate::generic::{mark_beside_another, move_mark, reserve_and_revoke};
 use basis::bank_bit::BankBit;
@@ -30,7 +32,8 @@ pub fn revoked_at_each(
     t: Seat,
     p: Place,
 ) -> [Option<Place>; 5]
-    ensures { result ≡ None ∷ (None ∷ (None ∷ (None ∷ (None ∷ [])))) }
+    ensures answer { result ≡ None ∷ (None ∷ (None ∷ (None ∷ (None ∷ [])))) }
+    ensures acts { Along nested_acts (reserve t.number p.number ∷ (revoke p.number ∷ [])) nested.old nested.new }
 {
     let mut full = Full::new();
     let mut owner = Owner::new();
@@ -63,15 +66,17 @@ pub fn move_in_version(version: &mut Version, t: Seat, p: Place)
     move_mark(version, t, p);
 }
 
-// In a pair of pairs: what the orders make of the bank that the seat does not use is nothing.
+// In a pair of pairs: both orders are carried out, and what they make of the bank that the seat does not use is nothing.
 pub fn move_in_nested(nested: &mut Nested, t: Seat, p: Place)
-    ensures { uses_second nested.old.bit.number t.number ≡ true → nested.new.first ≡ nested.old.first }
+    ensures other { uses_second nested.old.bit.number t.number ≡ true → nested.new.first ≡ nested.old.first }
+    ensures acts { Along nested_acts (release t.number ∷ (reserve t.number p.number ∷ [])) nested.old nested.new }
 {
     move_mark(nested, t, p);
 }
 
 pub fn beside_another_in_full(full: &mut Full, t: Seat, u: Seat, p: Place) -> Option<Place>
-    ensures { numbered result ≡ (if nat_eq t.number u.number then Some p.number else full_get (full_state full.old) t.number) }
+    ensures answer { numbered result ≡ (if nat_eq t.number u.number then Some p.number else full_get (full_state full.old) t.number) }
+    ensures acts { full_state full.new ≡ full_act (reserve u.number p.number) (full_state full.old) }
 {
     mark_beside_another(full, t, u, p)
 }
