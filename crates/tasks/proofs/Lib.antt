@@ -1,3 +1,4 @@
 pub mod Manned
 pub mod Plays
 pub mod Begun
+pub mod Refused

@@ -1,5 +1,5 @@
 -- One turn more. Assumes nothing.
-use Rattle.std.proofs.Common.{◌≡◌, ℕ, ◌<◌, Bool, List, [], ◌∷◌, ◌++◌, map, length, get_or, set, Some, sym, refl, ap, ◌∙◌, append_assoc, append-nil}
+use Rattle.std.proofs.Common.{◌≡◌, ℕ, ◌<◌, Bool, List, [], ◌∷◌, ◌++◌, map, length, get_or, set, Some, sym, refl, ap, ◌∙◌, subst, append_assoc, append-nil}
 use Rattle.std.proofs.lemmas.List.{map_push, length-map, map-set, get_or-map, set-get_or}
 use Rattle.basis.specs.declared.answer.Answer.{Answer}
 use Rattle.keys.specs.Wear.{wear_below}
@@ -18,7 +18,7 @@ use Rattle.tasks.specs.declared.turn.Task.{Task}
 use Rattle.tasks.specs.declared.turn.Task.TheVariants.{Host, Cleaner}
 use Rattle.tasks.specs.declared.turn.Turn.{Turn}
 use Rattle.tasks.specs.Turns.{asked, Called}
-use Rattle.tasks.specs.Stations.{state, seat, call, Manned, Same, ask_in, answer_in, Plays}
+use Rattle.tasks.specs.Stations.{state, seat, call, Manned, Same, Watched, Watches, ask_in, answer_in, Plays}
 
 module _ {S : Type 0} (table : S → Table) (strict : Bool) (acts : Order → S → S → Type 0) (d : Station S) where
   pub plays_none : Plays table strict acts d [] d
@@ -46,6 +46,12 @@ module _ {S : Type 0} (table : S → Table) (strict : Bool) (acts : Order → S 
         map_push answer_in ls (line t s) ∙ ap (λ l. l ++ Some s.answer ∷ []) before.1 ∙ sym (map_push Some new s.answer),
         driven_as wear_below table strict acts n w (append_assoc asks (map (ask_in d) ls) (ask_in d (line t s) ∷ []) ∙ ap (λ l. asks ++ l) (sym (map_push (ask_in d) ls (line t s)))) (append_assoc answers new (s.answer ∷ [])) more,
       )
+
+-- a line that shows its turn, after those before it
+pub watches_more : {S : Type 0} (table : S → Table) (strict : Bool) (acts : Order → S → S → Type 0) (d : Station S) (ls : List Line) (d' : Station S) (l : Line) (d'' : Station S)
+    → Watches table strict acts d ls d' → Watched table strict acts d' l d'' → Watches table strict acts d (ls ++ l ∷ []) d''
+watches_more table strict acts d [] d' l d'' e more = (d'', subst (λ x. Watched table strict acts x l d'') e more, refl)
+watches_more table strict acts d (k ∷ ls) d' l d'' (e, first, rest) more = (e, first, watches_more table strict acts e ls d' l d'' rest more)
 
 -- a line that is written again with its turn
 pub turns_stay : (lines : List Line) (i : ℕ) (x y : Line) → i < length lines → x ≡ get_or lines i x → y.turn ≡ x.turn → map (λ (l : Line). l.turn) (set lines i y) ≡ map (λ (l : Line). l.turn) lines

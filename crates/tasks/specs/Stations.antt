@@ -1,14 +1,20 @@
 -- An index with two tasks at it. Assumes nothing.
-use Rattle.std.specs.Prelude.{◌≡◌, ℕ, Bool, ◌≢◌, List, [], ◌∷◌, ◌++◌, map, length, Some, Option}
+use Rattle.std.specs.Prelude.{◌≡◌, ℕ, Bool, not, ◌≢◌, List, [], ◌∷◌, ◌++◌, map, length, Some, Option, ◌==◌, nat_lt}
 use Rattle.std.specs.Option.{option_map}
+use Rattle.basis.specs.declared.refusal.Refusal.{Refusal}
+use Rattle.basis.specs.declared.refusal.Refusal.TheVariants.{OutOfRange, WrongSizes, NotAway}
 use Rattle.basis.specs.declared.answer.Answer.{Answer}
 use Rattle.basis.specs.declared.answer.Answer.TheVariants.{Ok}
 use Rattle.keys.specs.Wear.{wear_below}
 use Rattle.list_law.specs.Performed.{Ask}
 use Rattle.list_law.specs.Driven.{Driven}
 use Rattle.keys.specs.declared.wear.Wear.{Wear}
+use Rattle.ledger.specs.Tests.{test, first}
 use Rattle.ledger.specs.Ledger.{Call, join}
+use Rattle.list_cells.specs.declared.cell.Cell.{Cell}
+use Rattle.list_cells.specs.Views.{cell_of}
 use Rattle.list_law.specs.Call.{State}
+use Rattle.list_law.specs.Making.{makes, Makes}
 use Rattle.list_window.specs.Applied.{state_of}
 use Rattle.list.specs.Calls.{call_of}
 use Rattle.list.specs.Slips.{Held}
@@ -21,7 +27,7 @@ use Rattle.tasks.specs.declared.turn.Seen.{Seen}
 use Rattle.tasks.specs.declared.turn.Task.{Task}
 use Rattle.tasks.specs.declared.turn.Task.TheVariants.{Host, Cleaner}
 use Rattle.tasks.specs.declared.turn.Turn.{Turn}
-use Rattle.tasks.specs.Turns.{asked}
+use Rattle.tasks.specs.Turns.{asked, Called}
 
 -- what the index keeps
 abbrev pub state : {S : Type 0} → Station S → State Wear S
@@ -58,6 +64,22 @@ pub record Same {S : Type 0} (d d' : Station S) : Type 0 where
   pub cleaner : d'.cleaner ≡ d.cleaner
   pub cells : length d'.cells ≡ length d.cells
 
+-- a line shows its turn, which led from d to d': the answer of its call, the marks before and after, and the cells and the head afterwards
+pub record Watched {S : Type 0} (table : S → Table) (strict : Bool) (acts : Order → S → S → Type 0) (d : Station S) (l : Line) (d' : Station S) : Type 0 where
+  pub seen : Seen
+  pub shown : l.seen ≡ Some seen
+  pub called : Called table strict acts (state d) (call d l.turn) seen.answer (state d')
+  pub before : Marked table d seen.before
+  pub after : Marked table d' seen.after
+  pub cells : seen.cells ≡ d'.cells
+  pub head : seen.head ≡ d'.anchor.head
+  pub same : Same d d'
+
+-- the same for these lines, whose turns led from d to d' one after another
+abbrev pub Watches : {S : Type 0} → (S → Table) → Bool → (Order → S → S → Type 0) → Station S → List Line → Station S → Type 0
+Watches table strict acts d [] d' = d' ≡ d
+Watches {S} table strict acts d (l ∷ ls) d' = (e : Station S) × Watched table strict acts d l e × Watches table strict acts e ls d'
+
 -- what is asked in a line, by host and cleaner at these seats
 abbrev pub asking : ℕ → ℕ → Line → Ask Wear
 asking h k l = record { seat = seat_by h k l.turn.task; level = 0; what = asked l.turn.ask }
@@ -81,17 +103,30 @@ Plays {S} table strict acts d ls d' =
 abbrev pub joining : ℕ → Ask Wear
 joining t = record { seat = t; level = 0; what = join }
 
--- a station over n cells with window w, just opened: two accepted joins after a making
-pub record Begun {S : Type 0} (table : S → Table) (strict : Bool) (acts : Order → S → S → Type 0) (n w h k : ℕ) (d : Station S) : Type 0 where
-  pub cells : length d.cells ≡ n
-  pub start : State Wear S
-  pub run : Driven wear_below table strict acts n w start (joining h ∷ joining k ∷ []) (Ok ∷ Ok ∷ []) (state d)
+-- why no station is opened over n cells with window w for host and cleaner at these seats, if one is not: the refusal of the making, of
+-- the host's join or of the cleaner's
+abbrev pub not_opened : ℕ → ℕ → ℕ → ℕ → Option Refusal
+not_opened n w h k =
+    first (test (not (makes n 16 w)) WrongSizes ∷ test (not (nat_lt h 16)) OutOfRange ∷ test (not (nat_lt k 16)) OutOfRange ∷ test (k == h) NotAway ∷ [])
 
--- host and cleaner joined an index of n cells with window w at these seats and took the turns of these lines, each of which shows its
--- answer: the answers are those of a lawful run of exactly these calls
-pub record Ran {S : Type 0} (table : S → Table) (strict : Bool) (acts : Order → S → S → Type 0) (n w h k : ℕ) (ls : List Line) : Type 0 where
+-- a station over the given cells and scheme with window w, just opened: two accepted joins after a making
+pub record Begun {S : Type 0} (table : S → Table) (strict : Bool) (acts : Order → S → S → Type 0) (given : List (Cell Wear)) (scheme : S) (w h k : ℕ) (d : Station S) : Type 0 where
+  pub cells : length d.cells ≡ length given
+  pub lent : State Wear S
+  pub of_cells : lent.cells ≡ map cell_of given
+  pub of_scheme : lent.marks ≡ scheme
+  pub start : State Wear S
+  pub made : Makes wear_below table strict acts lent w Ok start
+  pub run : Driven wear_below table strict acts (length given) w start (joining h ∷ joining k ∷ []) (Ok ∷ Ok ∷ []) (state d)
+
+-- host and cleaner joined an index over the given cells and scheme with window w at these seats and took the turns of these lines, each of
+-- which shows its turn: the answers are those of a lawful run of exactly these calls
+pub record Ran {S : Type 0} (table : S → Table) (strict : Bool) (acts : Order → S → S → Type 0) (given : List (Cell Wear)) (scheme : S) (w h k : ℕ) (ls : List Line) : Type 0 where
+  pub opened : Station S
+  pub begun : Begun table strict acts given scheme w h k opened
+  pub seats : (opened.host.seat ≡ h) × (opened.cleaner.seat ≡ k)
+  pub last : Station S
+  pub watched : Watches table strict acts opened ls last
   pub answers : List Answer
   pub shown : map answer_in ls ≡ map Some answers
-  pub start : State Wear S
-  pub last : State Wear S
-  pub run : Driven wear_below table strict acts n w start (joining h ∷ joining k ∷ map (asking h k) ls) (Ok ∷ Ok ∷ answers) last
+  pub run : Driven wear_below table strict acts (length given) w begun.start (joining h ∷ joining k ∷ map (asking h k) ls) (Ok ∷ Ok ∷ answers) (state last)

@@ -1,10 +1,10 @@
 // An index with two tasks at it, each with a slip in hand.
-ghost use Rattle.std.specs.Prelude.{◌≡◌, ◌<◌, map, length, IfOk, MatchResult};
+ghost use Rattle.std.specs.Prelude.{◌≡◌, ◌<◌, map, length, Some, IfOk, IfErr, MatchResult};
 ghost use Rattle.list_window.specs.Applied.{state_of};
 ghost use Rattle.list.specs.Calls.{call_of};
 ghost use Rattle.tasks.specs.Turns.{asked, Called};
 ghost use Rattle.marks.specs.Marks.{numbered};
-ghost use Rattle.tasks.specs.Stations.{state, call, Manned, Marked, Same, Plays, Begun, Ran};
+ghost use Rattle.tasks.specs.Stations.{state, call, Manned, Marked, Same, Watches, Plays, not_opened, Begun, Ran};
 
 use crate::turn::{Ask, Line, Marks, Seen, Task, Turn};
 use basis::answer::Answer;
@@ -71,8 +71,9 @@ impl<S: Scheme + Drop> Station<S> {
         cleaner: u8,
     ) -> Result<Station<S>, Refusal>
         ensures manned { IfOk result (λ d. Manned d) }
-        ensures begun { IfOk result (λ d. Begun S.Scheme.table S.Scheme.strict S.Scheme.acts (length cells) window host cleaner d) }
+        ensures begun { IfOk result (λ d. Begun S.Scheme.table S.Scheme.strict S.Scheme.acts cells scheme window host cleaner d) }
         ensures seats { IfOk result (λ d. (d.host.seat ≡ host) × (d.cleaner.seat ≡ cleaner)) }
+        ensures refused { IfErr result (λ e. not_opened (length cells) window host cleaner ≡ Some e) }
     {
         let mut rows = [Row { doing: Doing::Away }; 16];
         let mut anchor = Anchor {
@@ -199,6 +200,7 @@ impl<S: Scheme + Drop> Station<S> {
     pub(crate) fn play(&mut self, lines: &mut [Line])
         requires { Manned self.old }
         ensures turns { map (λ (l : Line). l.turn) lines.new ≡ map (λ (l : Line). l.turn) lines.old }
+        ensures watched { Watches S.Scheme.table S.Scheme.strict S.Scheme.acts self.old lines.new self.new }
         ensures plays { Plays S.Scheme.table S.Scheme.strict S.Scheme.acts self.old lines.new self.new }
         ensures manned { Manned self.new }
         ensures same { Same self.old self.new }
@@ -245,7 +247,7 @@ pub(crate) fn run_tasks<S: Scheme + Drop>(
     lines: &mut [Line],
 ) -> Result<(), Refusal>
     ensures turns { map (λ (l : Line). l.turn) lines.new ≡ map (λ (l : Line). l.turn) lines.old }
-    ensures ran { MatchResult result (λ _. Ran S.Scheme.table S.Scheme.strict S.Scheme.acts (length cells) window host cleaner lines.new) (λ _. lines.new ≡ lines.old) }
+    ensures ran { MatchResult result (λ _. Ran S.Scheme.table S.Scheme.strict S.Scheme.acts cells scheme window host cleaner lines.new) (λ e. (lines.new ≡ lines.old) × (not_opened (length cells) window host cleaner ≡ Some e)) }
 {
     let mut station = Station::open(cells, scheme, window, host, cleaner)?;
     station.play(lines);

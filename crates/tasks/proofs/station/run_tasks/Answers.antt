@@ -2,7 +2,7 @@
 use Rattle.std.proofs.Common.{◌∷◌, map, length, refl}
 use Rattle.keys.specs.Wear.{wear_below}
 use Rattle.list_law.proofs.Driven.{driven_as}
-use Rattle.tasks.specs.Stations.{asking, joining, state}
+use Rattle.tasks.specs.Stations.{asking, joining}
 use Rattle.tasks.proofs.station.run_tasks.Goals as goal
 
 pub returns : goal.returns
@@ -15,10 +15,13 @@ returns g c =
     record {
       turns = c.play.ensures.turns;
       ran = record {
+        opened = _;
+        begun = opened.begun;
+        seats = seats;
+        last = c.play.new.self;
+        watched = c.play.ensures.watched;
         answers = went.0;
         shown = went.1;
-        start = opened.begun.start;
-        last = state c.play.new.self;
         run = driven_as wear_below scheme.table scheme.strict scheme.acts (length c.args.cells) c.args.window (λ i. joining c.args.host ∷ joining c.args.cleaner ∷ map (asking (seats.0 i) (seats.1 i)) lines) refl went.2;
       };
     }

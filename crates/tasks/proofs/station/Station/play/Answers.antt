@@ -1,12 +1,12 @@
 -- Each turn is one more of the run.
 use Rattle.std.proofs.Common.{take, sym, refl, ◌∙◌, subst, arith}
 use Rattle.std.proofs.lemmas.List.{take_all, take_more_set}
-use Rattle.tasks.specs.Stations.{Plays}
-use Rattle.tasks.proofs.Plays.{plays_none, plays_more, turns_stay}
+use Rattle.tasks.specs.Stations.{Watches, Plays}
+use Rattle.tasks.proofs.Plays.{plays_none, plays_more, watches_more, turns_stay}
 use Rattle.tasks.proofs.station.Station.play.Goals as goal
 
 pub loop-at-init : goal.loop-at-init
-loop-at-init g c = (c.requires, record { host = refl; cleaner = refl; cells = refl }, plays_none g.S.Scheme.table g.S.Scheme.strict g.S.Scheme.acts c.args.self.now, refl)
+loop-at-init g c = (c.requires, record { host = refl; cleaner = refl; cells = refl }, plays_none g.S.Scheme.table g.S.Scheme.strict g.S.Scheme.acts c.args.self.now, refl, refl)
 
 pub loop-at-preserved : goal.loop-at-preserved
 loop-at-preserved g c =
@@ -20,7 +20,9 @@ loop-at-preserved g c =
       record { host = seen.same.host ∙ inv.1.host; cleaner = seen.same.cleaner ∙ inv.1.cleaner; cells = seen.same.cells ∙ inv.1.cells },
       subst (λ ls. Plays scheme.table scheme.strict scheme.acts d ls c.watch.new.self) (sym (take_more_set lines at _ (omega arith)))
           (plays_more scheme.table scheme.strict scheme.acts d (take at lines) c.loop-at.self c.watch.new.self _ c.watch.result inv.0 inv.1 inv.2 seen.called),
-      turns_stay lines at c.index-lines-at.result _ (omega arith) c.index-lines-at.is refl ∙ inv.3,
+      subst (λ ls. Watches scheme.table scheme.strict scheme.acts d ls c.watch.new.self) (sym (take_more_set lines at _ (omega arith)))
+          (watches_more scheme.table scheme.strict scheme.acts d (take at lines) c.loop-at.self _ c.watch.new.self inv.3 (record { seen = c.watch.result; shown = refl; called = seen.called; before = seen.before; after = seen.after; cells = seen.cells; head = seen.head; same = seen.same })),
+      turns_stay lines at c.index-lines-at.result _ (omega arith) c.index-lines-at.is refl ∙ inv.4,
     )
 
 pub returns : goal.returns
@@ -28,7 +30,8 @@ returns g c =
     let scheme = g.S.Scheme in
     let inv = c.loop-at.invariant in
     record {
-      turns = inv.3;
+      turns = inv.4;
+      watched = subst (λ ls. Watches scheme.table scheme.strict scheme.acts c.args.self.now ls c.loop-at.self) (take_all c.loop-at.at c.loop-at.lines (omega arith)) inv.3;
       plays = subst (λ ls. Plays scheme.table scheme.strict scheme.acts c.args.self.now ls c.loop-at.self) (take_all c.loop-at.at c.loop-at.lines (omega arith)) inv.2;
       manned = inv.0;
       same = inv.1;
