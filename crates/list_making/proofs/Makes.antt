@@ -7,10 +7,16 @@ use Rattle.marks.specs.Meaning.{Order, release, Along}
 use Rattle.list_window.specs.declared.row.Row as declared
 use Rattle.list_window.specs.declared.row.Doing.TheVariants.{Away}
 use Rattle.list_window.specs.Rows.{row_of}
-use Rattle.list_making.specs.Chained.{next_number, freed_front}
+use Rattle.list_making.specs.Chained.{next_number}
 use Rattle.list_law.specs.Call.{Cell, cell, away}
 use Rattle.list_law.specs.Runs.{onward, chained}
 use Rattle.list_law.specs.Making.{makes, releases_from}
+
+-- cells from place p on, of so many in all: the first n of them free and linked to the next place, the others as they are
+abbrev pub freed_front : {K : Type 0} → ℕ → ℕ → ℕ → List (Cell K) → List (Cell K)
+freed_front count zero p cs = cs
+freed_front count (suc n) p [] = []
+freed_front count (suc n) p (c ∷ cs) = cell c.key (next_number p count) false ∷ freed_front count n (suc p) cs
 
 -- a row that is away
 abbrev pub away_row : {K : Type 0} → declared.Row K

@@ -5,9 +5,9 @@ use Rattle.std.specs.List.{slice_get}
 use Rattle.std.specs.Option.{option_map}
 use Rattle.list_law.specs.Call.{cell}
 use Rattle.list_cells.specs.Views.{cell_of}
-use Rattle.list_making.specs.Chained.{next_number, freed_front}
+use Rattle.list_making.specs.Chained.{next_number}
 use Rattle.list_cells.proofs.Viewed.{nth_map}
-use Rattle.list_making.proofs.Makes.{front_nth, front_more, front_all}
+use Rattle.list_making.proofs.Makes.{freed_front, front_nth, front_more, front_all}
 use Rattle.list_making.proofs.making.free_cells.Goals as goal
 
 pub loop-at-preserved : goal.loop-at-preserved

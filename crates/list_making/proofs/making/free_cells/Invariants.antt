@@ -1,6 +1,6 @@
 use Rattle.std.proofs.Common.{◌≡◌, map, length}
 use Rattle.list_cells.specs.Views.{cell_of}
-use Rattle.list_making.specs.Chained.{freed_front}
+use Rattle.list_making.proofs.Makes.{freed_front}
 use Rattle.list_making.proofs.making.free_cells.Given as goal
 
 abbrev pub invariant-loop-at : goal.invariant-loop-at
