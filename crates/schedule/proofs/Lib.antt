@@ -1,3 +1,4 @@
+pub mod Digits
 pub mod Cuts
 pub mod Writes
 pub mod Askings

@@ -1,5 +1,5 @@
 // The lines that answer a schedule.
-ghost use Rattle.std.specs.Prelude.{◌≡◌, ◌+◌, ◌<◌, [], ◌∷◌, ◌++◌, length, IfOk, OnOk, string_bytes, slice_index_or};
+ghost use Rattle.std.specs.Prelude.{◌≡◌, ◌+◌, ◌<◌, ◌≤◌, [], ◌∷◌, ◌++◌, IfOk, OnOk, string_bytes, decimal};
 ghost use Rattle.basis.specs.Answers.{spoken};
 ghost use Rattle.schedule.specs.Lines.{line_of, lines_from};
 
@@ -7,6 +7,64 @@ use basis::answer::Answer;
 use basis::refusal::Refusal;
 use itoa::Buffer;
 use std::alloc::{AllocError, Global};
+use std::str::from_utf8_unchecked;
+
+// The byte of a digit.
+fn digit(value: usize) -> u8
+    requires { value < 10 }
+    ensures { result ≡ 48 + value }
+{
+    b'0' + value as u8
+}
+
+// The four digits of a number that has so many.
+fn four_digits(number: usize) -> [u8; 4]
+    requires { (1000 ≤ number) × (number < 10000) }
+    ensures { result ≡ decimal number }
+{
+    let tens = number / 10;
+    let hundreds = tens / 10;
+    let thousands = hundreds / 10;
+    [
+        digit(thousands),
+        digit(hundreds % 10),
+        digit(tens % 10),
+        digit(number % 10),
+    ]
+}
+
+// The five digits of a number that has so many.
+fn five_digits(number: usize) -> [u8; 5]
+    requires { (10000 ≤ number) × (number < 100000) }
+    ensures { result ≡ decimal number }
+{
+    let tens = number / 10;
+    let hundreds = tens / 10;
+    let thousands = hundreds / 10;
+    [
+        digit(thousands / 10),
+        digit(thousands % 10),
+        digit(hundreds % 10),
+        digit(tens % 10),
+        digit(number % 10),
+    ]
+}
+
+// Adds a number. Most lines of a long schedule have four or five digits, which are written at once.
+fn push_number(text: &mut String, number: usize) -> Result<(), AllocError>
+    ensures { OnOk result (string_bytes text.new ≡ string_bytes text.old ++ decimal number) }
+{
+    if 1000 <= number && number < 10000 {
+        let digits = four_digits(number);
+        return text.push_str(unsafe { from_utf8_unchecked(&digits) });
+    }
+    if 10000 <= number && number < 100000 {
+        let digits = five_digits(number);
+        return text.push_str(unsafe { from_utf8_unchecked(&digits) });
+    }
+    let mut digits = Buffer::new();
+    text.push_str(digits.format(number))
+}
 
 // Adds what stands behind the number in the line of a refusal.
 fn push_refusal(text: &mut String, refusal: Refusal) -> Result<(), AllocError>
@@ -36,8 +94,7 @@ fn push_answer(text: &mut String, answer: Answer) -> Result<(), AllocError>
 pub fn push_line(text: &mut String, number: usize, answer: Answer) -> Result<(), AllocError>
     ensures { OnOk result (string_bytes text.new ≡ string_bytes text.old ++ line_of number answer) }
 {
-    let mut digits = Buffer::new();
-    text.push_str(digits.format(number))?;
+    push_number(text, number)?;
     push_answer(text, answer)
 }
 
