@@ -16,6 +16,7 @@ pub struct Link {
 
 impl Link {
     // The link to a place, or the end.
+    #[tactic(auto, using(crate::proofs::Links::named_there, crate::proofs::Links::named_end))]
     pub fn new(place: Option<Place>) -> Link
         ensures { place_named result ≡ numbered place }
     {
@@ -28,6 +29,7 @@ impl Link {
     }
 
     // The place that this link leads to, if it is not the end.
+    #[tactic(auto, using(crate::proofs::Links::named_there, crate::proofs::Links::named_end))]
     pub fn place(self) -> Option<Place>
         ensures { numbered result ≡ place_named self }
     {
