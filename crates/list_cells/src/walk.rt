@@ -91,6 +91,7 @@ fn passes<K: Key>(cell: &Cell<K>, target: K) -> bool
 }
 
 // Links followed past up to `room` cells; one more that is below the target ends the window there.
+#[inline(always)]
 fn walk_links<K: Key>(
     cells: &[Cell<K>],
     target: K,
@@ -119,6 +120,7 @@ fn walk_links<K: Key>(
 }
 
 // The walk of a window: from behind the marked cell, which must be a listed one, or from the head.
+#[inline(always)]
 pub fn walk_from<K: Key>(
     cells: &[Cell<K>],
     head: Option<Place>,

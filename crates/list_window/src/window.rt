@@ -140,6 +140,7 @@ fn on_absent<K: Key, S: Scheme>(
 }
 
 // What a window does, by where its walk ended.
+#[inline(always)]
 fn decide<K: Key, S: Scheme>(
     cells: &mut [Cell<K>],
     rows: &mut [Row<K>],
@@ -172,6 +173,7 @@ fn width(seat: Seat, window: u8, mark: Option<Place>) -> u8
 }
 
 // Where the walk of a seat's next window ends, for a seat with that mark.
+#[inline(always)]
 fn walk_behind<K: Key>(
     cells: &[Cell<K>],
     anchor: &Anchor,
@@ -186,6 +188,7 @@ fn walk_behind<K: Key>(
 }
 
 // The same, for the mark that the scheme answers.
+#[inline(always)]
 fn walk_of<K: Key, S: Scheme>(
     cells: &[Cell<K>],
     anchor: &Anchor,
@@ -199,6 +202,7 @@ fn walk_of<K: Key, S: Scheme>(
 }
 
 // One window of a running seat.
+#[inline(always)]
 pub fn run_window<K: Key, S: Scheme>(
     cells: &mut [Cell<K>],
     rows: &mut [Row<K>],

@@ -51,6 +51,7 @@ fn five_digits(number: usize) -> [u8; 5]
 }
 
 // Adds a number. Most lines of a long schedule have four or five digits, which are written at once.
+#[inline(always)]
 fn push_number(text: &mut String, number: usize) -> Result<(), AllocError>
     ensures { OnOk result (string_bytes text.new ≡ string_bytes text.old ++ decimal number) }
 {
@@ -77,6 +78,7 @@ fn push_refusal(text: &mut String, refusal: Refusal) -> Result<(), AllocError>
 }
 
 // Adds what stands behind the number in a line: a space, the answer, and a line feed.
+#[inline(always)]
 fn push_answer(text: &mut String, answer: Answer) -> Result<(), AllocError>
     ensures { OnOk result (string_bytes text.new ≡ string_bytes text.old ++ 32 ∷ (spoken answer ++ 10 ∷ [])) }
 {
@@ -91,6 +93,7 @@ fn push_answer(text: &mut String, answer: Answer) -> Result<(), AllocError>
 }
 
 // Adds the line of a record: its number, a space, the answer, and a line feed.
+#[inline(always)]
 pub fn push_line(text: &mut String, number: usize, answer: Answer) -> Result<(), AllocError>
     ensures { OnOk result (string_bytes text.new ≡ string_bytes text.old ++ line_of number answer) }
 {
