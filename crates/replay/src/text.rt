@@ -13,13 +13,34 @@ use records::record::Record;
 use schedule::lines::{line, push_line, push_lines};
 use std::alloc::{AllocError, Global};
 
+// Adds the line of a refusal.
+fn push_refusal(text: &mut String, number: usize, refusal: Refusal) -> Result<(), AllocError>
+    ensures { OnOk result (string_bytes text.new ≡ string_bytes text.old ++ line_of number (Answer.Refused refusal)) }
+{
+    push_line(text, number, Answer::Refused(refusal))
+}
+
+// A refused setup is all that is answered.
+fn text_of_refused(heap: Global) -> Result<String, AllocError>
+    ensures { IfOk result (λ text. string_bytes text ≡ line_of 1 (Answer.Refused Refusal.WrongSizes)) }
+{
+    line(heap, 1, Answer::Refused(Refusal::WrongSizes))
+}
+
+// Adds the line of the setup, which was accepted.
+fn push_accepted(text: &mut String) -> Result<(), AllocError>
+    ensures { OnOk result (string_bytes text.new ≡ string_bytes text.old ++ line_of 1 Answer.Ok) }
+{
+    push_line(text, 1, Answer::Ok)
+}
+
 // Adds the line of the refusal at which reading stopped, if there is one.
 fn push_stop(text: &mut String, number: usize, stop: Option<Refusal>) -> Result<(), AllocError>
     ensures { OnOk result (string_bytes text.new ≡ string_bytes text.old ++ lines_from number (refused_by stop)) }
 {
     match stop {
         None => Ok(()),
-        Some(refusal) => push_line(text, number, Answer::Refused(refusal)),
+        Some(refusal) => push_refusal(text, number, refusal),
     }
 }
 
@@ -42,7 +63,7 @@ fn text_of_answers(
 {
     // room for lines of the usual length
     let mut text = String::with_capacity(heap, answers.len().saturating_mul(12))?;
-    push_line(&mut text, 1, Answer::Ok)?;
+    push_accepted(&mut text)?;
     push_lines(&mut text, 2, answers)?;
     push_stop(&mut text, answers.len() + 2, stop)?;
     Ok(text)
@@ -68,7 +89,7 @@ pub fn text_of(heap: Global, calls: Calls) -> Result<String, AllocError>
     // the room of what was asked is given back before room for the text is taken
     drop(asks);
     match answers {
-        None => line(heap, 1, Answer::Refused(Refusal::WrongSizes)),
+        None => text_of_refused(heap),
         Some(answers) => text_of_answers(heap, answers.as_slice(), stop),
     }
 }

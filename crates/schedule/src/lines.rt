@@ -1,5 +1,5 @@
 // The lines that answer a schedule.
-ghost use Rattle.std.specs.Prelude.{◌≡◌, ◌+◌, ◌<◌, ◌≤◌, [], ◌∷◌, ◌++◌, IfOk, OnOk, string_bytes, decimal};
+ghost use Rattle.std.specs.Prelude.{◌≡◌, ◌+◌, ◌<◌, ◌≤◌, [], ◌∷◌, ◌++◌, length, IfOk, OnOk, string_bytes, decimal, slice_index_or};
 ghost use Rattle.basis.specs.Answers.{spoken};
 ghost use Rattle.schedule.specs.Lines.{line_of, lines_from};
 
@@ -101,12 +101,26 @@ pub fn push_line(text: &mut String, number: usize, answer: Answer) -> Result<(),
     push_answer(text, answer)
 }
 
+// Adds the line of one of some answers.
+#[inline(always)]
+fn push_line_of(
+    text: &mut String,
+    number: usize,
+    answers: &[Answer],
+    index: usize,
+) -> Result<(), AllocError>
+    requires { index < length answers.now }
+    ensures { OnOk result (string_bytes text.new ≡ string_bytes text.old ++ line_of number (slice_index_or answers.now index Answer.No)) }
+{
+    push_line(text, number, answers[index])
+}
+
 // Adds the lines of answers one after another, the first with that number.
 pub fn push_lines(text: &mut String, first: u16, answers: &[Answer]) -> Result<(), AllocError>
     ensures { OnOk result (string_bytes text.new ≡ string_bytes text.old ++ lines_from first answers.now) }
 {
     for index in 0..answers.len() {
-        push_line(text, usize::from(first) + index, answers[index])?;
+        push_line_of(text, usize::from(first) + index, answers, index)?;
     }
     Ok(())
 }

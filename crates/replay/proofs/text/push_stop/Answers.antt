@@ -14,4 +14,4 @@ unfolding lines_from
 returns-in-Some c =
     let before = string_bytes c.args.text.now in
     let line = line_of c.args.number (Refused c.in-Some.refusal) in
-    on_ok_weaker c.push_line.result (λ e. e ∙ ap (λ t. before ++ t) (sym (append-nil line)) ∙ ap (λ o. before ++ lines_from c.args.number (refused_by o)) (sym c.in-Some.is)) c.push_line.ensures
+    on_ok_weaker c.push_refusal.result (λ e. e ∙ ap (λ t. before ++ t) (sym (append-nil line)) ∙ ap (λ o. before ++ lines_from c.args.number (refused_by o)) (sym c.in-Some.is)) c.push_refusal.ensures

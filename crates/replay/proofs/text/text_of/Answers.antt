@@ -28,9 +28,9 @@ returns-in-None c =
     let s = c.in-Setup in
     let is = c.in-Some.is ∙ ap Some s.is in
     let sizes = at_none c.in_ok-answers.answers _ _ c.in-None.is c.in_ok-answers.ensures in
-    IfOk-weaker c.line.result _ _
+    IfOk-weaker c.text_of_refused.result _ _
     (λ text e. told_refused c.args.calls.setup s.scheme s.cells s.window is asks (refused_by c.args.calls.stop) (string_bytes text) sizes (e ∙ sym (append-nil (line_of 1 (Refused WrongSizes)))))
-    c.line.ensures
+    c.text_of_refused.ensures
 
 pub returns-in-Some-answers : goal.returns-in-Some-answers
 returns-in-Some-answers c =
