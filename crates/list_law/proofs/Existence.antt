@@ -81,9 +81,9 @@ module _ {K M : Type 0} (below : K → K → Bool) (order : Total below) (table 
 
   pub runs : Runs below table strict acts 1008 64
   runs = record {
-    makes = λ n w some few some-w narrow given number. (
+    makes = λ n w some few some_w narrow given number. (
       record { cells = chained 0 given; rows = replicate 16 away; anchor = record { count = n; window = w; head = None; free = onward 0 given }; marks = able.blank },
-      record { sized = record { some_cells = some; few_cells = few; some_window = some-w; narrow = narrow }; given = given; number = number; cells = refl; rows = refl; anchor = refl; marks = able.unmarked },
+      record { sized = record { some_cells = some; few_cells = few; some_window = some_w; narrow = narrow }; given = given; number = number; cells = refl; rows = refl; anchor = refl; marks = able.unmarked },
       refl,
     );
     goes_on = λ n w es s r c.

@@ -45,7 +45,7 @@ module _ {K : Type 0} (below : K → K → Bool) (order : Total below) (x : K) (
 module _ {K M : Type 0} (below : K → K → Bool) (order : Total below) (table : M → Table) (strict : Bool) (acts : Order → M → M → Type 0) (n w : ℕ) (a : Ledger K) (s : State K M) (e : Event K) (s' : State K M)
     (v : Inv below table n w a s) (seat : e.call.seat < 16) (did : Did below table strict acts s e.call e.answer s') (told : e.told ≡ (effect below table s e.call).told)
     (k : Kind) (x : K) (row : a.row e.call.seat ≡ plain.running k x) (what : e.call.what ≡ step)
-    (steps-as : reply below a e.call e.told ≡ stepped below a e.call.seat e.told) where
+    (steps_as : reply below a e.call e.told ≡ stepped below a e.call.seat e.told) where
   abbrev Goal : Type 0
   Goal = Called below table strict acts n w a s e s'
 
@@ -99,7 +99,7 @@ module _ {K M : Type 0} (below : K → K → Bool) (order : Total below) (table 
 
   -- not told wait, the ledger runs the operation whole
   whole_reply : e.told ≡ nothing → (k' : Kind) → k ≡ k' → reply below a e.call e.told ≡ operated below a t k' x
-  whole_reply tl k' ek = steps-as ∙ ap (stepped below a t) tl ∙ ap (plain.whole below a t) (row ∙ ap (λ z. plain.running z x) ek)
+  whole_reply tl k' ek = steps_as ∙ ap (stepped below a t) tl ∙ ap (plain.whole below a t) (row ∙ ap (λ z. plain.running z x) ek)
 
   -- an end of the operation that leaves the cells
   called_ended : (ans : Answer) → effect below table s e.call ≡ ended t ans m → is_accepted ans ≡ true → is_final ans ≡ true
@@ -291,7 +291,7 @@ module _ {K M : Type 0} (below : K → K → Bool) (order : Total below) (table 
   called_walked end (waits fs p y bs l is long lo hi) eff =
       called_waits below table strict acts n w a s e s' v seat did told k x row what p eff start fs y bs is long
       (subst (In (entry p y)) (sym (split fs lo (entry p y ∷ bs) is)) (in_middle (entry p y) (front fs lo) bs)) hi
-      (steps-as ∙ ap (stepped below a t) (told_as (waiting t p m) eff))
+      (steps_as ∙ ap (stepped below a t) (told_as (waiting t p m) eff))
       (rule (rules_wait below order s.cells s.anchor.head x v.listed room mark start e.answer (table s'.marks t) a.set v.set
       (answer_as (waiting t p m) eff) fs p y bs is long lo hi
       (moved_marks below table strict acts n w a s e s' v seat did told k x row what p eff).0))
