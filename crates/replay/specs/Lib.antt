@@ -1,4 +1,5 @@
 pub mod Answers
+pub mod Opening
 pub mod Runs
 pub mod Texts
 pub mod Views

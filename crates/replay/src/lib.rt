@@ -6,6 +6,7 @@ ghost use Rattle.schedule.specs.Lines.{line_of};
 ghost use Rattle.replay.specs.Texts.{Replayed};
 
 mod calls;
+pub mod opening;
 mod runs;
 mod text;
 

@@ -1,6 +1,7 @@
 // What short, long and damaged schedules are answered.
 use basis::answer::Answer;
 use basis::refusal::Refusal;
+use replay::opening::answer_opening;
 use replay::replay;
 use schedule::contents::read_whole;
 use schedule::lines::line;
@@ -29,8 +30,10 @@ fn check_contents(
     Ok(())
 }
 
+// A schedule of one record at most, whose replay is answered as its opening is.
 fn check_text(rt: &impl Abort, heap: Global, bytes: &[u8], text: &str) -> Result<(), Fail> {
     assert_eq!(rt; replay(heap, bytes)?.as_str(), text);
+    assert_eq!(rt; answer_opening(heap, bytes)?.as_str(), text);
     Ok(())
 }
 
@@ -185,6 +188,13 @@ fn the_sizes_of_a_setup_are_tested(rt: HostRuntime) -> Result<(), Fail> {
     check_text(&rt, heap, &[1, 0, 5, 0, 2, 3, 241, 64], "1 refused 2\n")?;
     check_text(&rt, heap, &[1, 0, 5, 0, 3, 3, 240, 65], "1 refused 2\n")?;
     check_text(&rt, heap, &[1, 0, 5, 0, 3, 0, 1, 0], "1 refused 2\n")
+}
+
+#[test]
+fn the_opening_of_the_worked_schedule_is_answered(rt: HostRuntime) -> Result<(), Fail> {
+    let heap = rt.alloc();
+    assert_eq!(rt; answer_opening(heap, &WORKED)?.as_str(), "1 ok\n");
+    Ok(())
 }
 
 // The longest schedule: a setup and 14,998 joins are 60,000 bytes.

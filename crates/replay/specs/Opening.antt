@@ -1,0 +1,41 @@
+-- What the opening of a schedule is answered: whether the bytes are opened, and the line of their first record. It is where the text of the
+-- whole replay begins. Assumes nothing.
+use Rattle.std.specs.Prelude.{◌≡◌, ℕ, Bool, cond, ◌&&◌, List, [], ◌++◌, length, drop, true, Some, None, Option, nat_le}
+use Rattle.basis.specs.declared.answer.Answer.{Answer}
+use Rattle.basis.specs.declared.answer.Answer.TheVariants.{Ok, Refused}
+use Rattle.basis.specs.declared.refusal.Refusal.TheVariants.{WrongSizes, BadRecord}
+use Rattle.records.specs.declared.record.Record.{Record}
+use Rattle.records.specs.declared.record.Record.TheVariants.{Setup, Join, Leave, Begin, Step, Abandon}
+use Rattle.schedule.specs.Reading.{Reading, handed, ended, malformed, next_of, open_refusal}
+use Rattle.schedule.specs.Lines.{line_of, refused_line}
+
+-- 1 to 1,008 cells, and a window of 1 to 64
+abbrev pub sizes_fit : ℕ → ℕ → Bool
+sizes_fit cells window = nat_le 1 cells && nat_le cells 1008 && nat_le 1 window && nat_le window 64
+
+-- what a setup is answered; the reader hands out no other record first
+abbrev pub setup_answer : Record → Answer
+setup_answer (Setup s cells window) = cond (sizes_fit cells window) Ok (Refused WrongSizes)
+setup_answer (Join seat) = Refused BadRecord
+setup_answer (Leave seat) = Refused BadRecord
+setup_answer (Begin k seat sector) = Refused BadRecord
+setup_answer (Step seat) = Refused BadRecord
+setup_answer (Abandon seat) = Refused BadRecord
+
+-- the line of the first record, if there is one
+abbrev pub first_line : Reading → List ℕ
+first_line (handed e left) = line_of 1 (setup_answer e.content)
+first_line ended = []
+first_line malformed = refused_line 1 11
+
+-- what bytes are answered: the refusal to open them on line 0, or else the first record's line
+abbrev pub opened_by : List ℕ → Option ℕ → List ℕ
+opened_by bytes (Some n) = refused_line 0 n
+opened_by bytes None = first_line (next_of true (length bytes) (drop 1 bytes))
+
+abbrev pub opening_of : List ℕ → List ℕ
+opening_of bytes = opened_by bytes (open_refusal bytes)
+
+-- a text that begins with another
+abbrev pub BeginsWith : List ℕ → List ℕ → Type 0
+BeginsWith text front = (rest : List ℕ) × (text ≡ front ++ rest)

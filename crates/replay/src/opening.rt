@@ -1,0 +1,55 @@
+// What the opening of a schedule is answered: nothing is made, and no call is run.
+ghost use Rattle.std.specs.Prelude.{◌≡◌, IfOk, string_bytes};
+ghost use Rattle.replay.specs.Opening.{sizes_fit, setup_answer, opening_of, BeginsWith};
+ghost use Rattle.replay.specs.Texts.{text_of};
+
+use basis::answer::Answer;
+use basis::refusal::Refusal;
+use records::record::Record;
+use schedule::lines::line;
+use schedule::reader::{Outcome, Reader};
+use std::alloc::{AllocError, Global};
+
+// The numbers of cells and the windows that a setup may ask for.
+fn sizes_fit(cells: u16, window: u8) -> bool
+    ensures { result ≡ sizes_fit cells window }
+{
+    (1 <= cells) & (cells <= 1008) & (1 <= window) & (window <= 64)
+}
+
+// What the first record is answered.
+fn setup_answer(content: Record) -> Answer
+    ensures { result ≡ setup_answer content }
+{
+    match content {
+        Record::Setup {
+            scheme: _,
+            cells,
+            window,
+        } => {
+            if sizes_fit(cells, window) {
+                Answer::Ok
+            } else {
+                Answer::Refused(Refusal::WrongSizes)
+            }
+        }
+        _ => Answer::Refused(Refusal::BadRecord),
+    }
+}
+
+// The line that answers the first record of a schedule, or the refusal to open it; no line where there is no record. The text of a replay
+// begins with it.
+pub fn answer_opening(heap: Global, bytes: &[u8]) -> Result<String, AllocError>
+    ensures text { IfOk result (λ text. string_bytes text ≡ opening_of bytes.now) }
+    ensures begins { BeginsWith (text_of bytes.now) (opening_of bytes.now) }
+{
+    let mut reader = match Reader::open(bytes) {
+        Ok(reader) => reader,
+        Err(refusal) => return line(heap, 0, Answer::Refused(refusal)),
+    };
+    match reader.next() {
+        Outcome::Handed(part) => line(heap, 1, setup_answer(part.content)),
+        Outcome::Ended => Ok(String::new(heap)),
+        Outcome::Refused(refusal) => line(heap, 1, Answer::Refused(refusal)),
+    }
+}
