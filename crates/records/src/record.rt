@@ -6,7 +6,7 @@ use basis::kind::Kind;
 use std::fmt;
 
 // The schemes that a setup can name.
-#[derive(Clone, Copy)]
+#[derive(Clone, Copy, PartialEq, Eq, Debug)]
 pub enum SchemeName {
     Full,
     Owner,
@@ -14,7 +14,7 @@ pub enum SchemeName {
 }
 
 // One record, decoded. Seats are plain numbers here: their range is the business of the calls.
-#[derive(Clone, Copy)]
+#[derive(Clone, Copy, PartialEq, Eq, Debug)]
 pub enum Record {
     Setup {
         scheme: SchemeName,

@@ -8,7 +8,7 @@ use basis::refusal::Refusal;
 use records::record::{Record, decode};
 
 // One record as it is handed out: its bytes from the call byte on, a part of the schedule, the offset of that byte, and what the record says.
-#[derive(Clone, Copy)]
+#[derive(Clone, Copy, Debug)]
 pub struct Part<'a> {
     pub bytes: &'a [u8],
     pub offset: usize,
@@ -16,7 +16,7 @@ pub struct Part<'a> {
 }
 
 // What one asking gives: a record, the end, or the refusal of what stands there.
-#[derive(Clone, Copy)]
+#[derive(Clone, Copy, Debug)]
 pub enum Outcome<'a> {
     Handed(Part<'a>),
     Ended,
