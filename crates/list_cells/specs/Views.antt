@@ -12,7 +12,7 @@ use Rattle.list_law.specs.Call as call
 
 -- a cell, with its link by number
 abbrev pub cell_of : {K : Type 0} → declared.Cell K → call.Cell K
-cell_of c = call.cell c.key (place_named c.link) c.listed
+cell_of c = call.cell c.key (place_named c.link.number) c.listed
 
 abbrev pub found_of : {K : Type 0} → Option (Bor (declared.Cell K)) → Option (call.Cell K)
 found_of o = option_map (λ b. cell_of b.now) o

@@ -1,5 +1,5 @@
 // The link that a cell keeps.
-ghost use Rattle.std.specs.Prelude.{◌≡◌};
+ghost use Rattle.std.specs.Prelude.{◌≡◌, ◌≤◌};
 ghost use Rattle.marks.specs.Marks.{numbered};
 ghost use Rattle.list_cells.specs.Links.{place_named};
 
@@ -8,17 +8,18 @@ use basis::place::Place;
 // The number of no place, which stands for the end of a chain.
 const END: u16 = 1008;
 
-// A place or the end, in the two bytes of a number, so that a cell with a sector takes eight.
+// A place or the end, in the two bytes of a number, so that a cell with a sector takes eight. One number alone stands for the end.
 #[derive(Clone, Copy)]
 pub struct Link {
     number: u16,
+    ghost ok: { number ≤ 1008 },
 }
 
 impl Link {
     // The link to a place, or the end.
     #[tactic(auto, using(crate::proofs::Links::named_there, crate::proofs::Links::named_end))]
     pub fn new(place: Option<Place>) -> Link
-        ensures { place_named result ≡ numbered place }
+        ensures { place_named result.number ≡ numbered place }
     {
         match place {
             None => Link { number: END },
@@ -31,7 +32,7 @@ impl Link {
     // The place that this link leads to, if it is not the end.
     #[tactic(auto, using(crate::proofs::Links::named_there, crate::proofs::Links::named_end))]
     pub fn place(self) -> Option<Place>
-        ensures { numbered result ≡ place_named self }
+        ensures { numbered result ≡ place_named self.number }
     {
         match Place::new(self.number) {
             Ok(place) => Some(place),

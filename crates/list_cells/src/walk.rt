@@ -99,7 +99,7 @@ fn walk_links<K: Key>(
     lead: Option<Place>,
     link: Link,
 ) -> Met
-    ensures { met_of result ≡ walk K.Key.below (map cell_of cells.now) target room (numbered lead) (place_named link) }
+    ensures { met_of result ≡ walk K.Key.below (map cell_of cells.now) target room (numbered lead) (place_named link.number) }
 {
     let mut lead = lead;
     let mut link = link;

@@ -15,9 +15,9 @@ loop-passed-preserved g c =
     let x = c.args.target in
     let cell = c.in-Some-cell_at.cell in
     let place = c.in-Some.place.number in
-    let named : ◌≡◌ {A = Option ℕ} (Some place) (place_named l.link) = sym (ap numbered c.in-Some.is) ∙ c.place.ensures in
+    let named : ◌≡◌ {A = Option ℕ} (Some place) (place_named l.link.number) = sym (ap numbered c.in-Some.is) ∙ c.place.ensures in
     let lead = numbered l.lead in
-    walk_on below cells x c.args.room l._passed lead (place_named l.link) place (place_named cell.now.link) c.loop-passed-test.true
+    walk_on below cells x c.args.room l._passed lead (place_named l.link.number) place (place_named cell.now.link.number) c.loop-passed-test.true
     (passed_here below cells x lead place (cell_of cell.now) c.in-Some-cell_at.ensures (sym c.if-not-passes.ensures) ∙ ap (look below cells x lead) named)
     ∙ l.invariant
 
@@ -27,8 +27,8 @@ returns-in_default g c =
     let cells = map cell_of c.args.cells.now in
     let l = c.loop-passed in
     let x = c.args.target in
-    let named : ◌≡◌ {A = Option ℕ} None (place_named l.link) = sym (ap numbered c.in_default.is) ∙ c.place.ensures in
-    walk_ends below cells x c.args.room l._passed (numbered l.lead) (place_named l.link) _ c.loop-passed-test.true
+    let named : ◌≡◌ {A = Option ℕ} None (place_named l.link.number) = sym (ap numbered c.in_default.is) ∙ c.place.ensures in
+    walk_ends below cells x c.args.room l._passed (numbered l.lead) (place_named l.link.number) _ c.loop-passed-test.true
     (λ p k e. let z : ◌≡◌ {A = ℕ} 0 1 = cc in absurd (omega arith))
     (ap (look below cells x (numbered l.lead)) named)
     ∙ l.invariant
@@ -40,8 +40,8 @@ returns-in_default-cell_at g c =
     let l = c.loop-passed in
     let x = c.args.target in
     let place = c.in-Some.place.number in
-    let named : ◌≡◌ {A = Option ℕ} (Some place) (place_named l.link) = sym (ap numbered c.in-Some.is) ∙ c.place.ensures in
-    walk_ends below cells x c.args.room l._passed (numbered l.lead) (place_named l.link) bad c.loop-passed-test.true
+    let named : ◌≡◌ {A = Option ℕ} (Some place) (place_named l.link.number) = sym (ap numbered c.in-Some.is) ∙ c.place.ensures in
+    walk_ends below cells x c.args.room l._passed (numbered l.lead) (place_named l.link.number) bad c.loop-passed-test.true
     (λ p k e. let z : ◌≡◌ {A = ℕ} 0 1 = cc in absurd (omega arith))
     (ap (met below x (numbered l.lead) place) c.in_default-cell_at.ensures ∙ ap (look below cells x (numbered l.lead)) named)
     ∙ l.invariant
@@ -54,10 +54,10 @@ returns-then-not-passes g c =
     let x = c.args.target in
     let cell = c.in-Some-cell_at.cell in
     let place = c.in-Some.place.number in
-    let named : ◌≡◌ {A = Option ℕ} (Some place) (place_named l.link) = sym (ap numbered c.in-Some.is) ∙ c.place.ensures in
+    let named : ◌≡◌ {A = Option ℕ} (Some place) (place_named l.link.number) = sym (ap numbered c.in-Some.is) ∙ c.place.ensures in
     let found = c.in-Some-cell_at.ensures in
     let judged = c.judge.ensures ∙ ap (met below x (numbered l.lead) place) found in
-    walk_ends below cells x c.args.room l._passed (numbered l.lead) (place_named l.link) _ c.loop-passed-test.true
+    walk_ends below cells x c.args.room l._passed (numbered l.lead) (place_named l.link.number) _ c.loop-passed-test.true
     (λ p k e. ends_here below cells x (numbered l.lead) place (cell_of cell.now) found (sym c.if-not-passes.ensures) p k (sym judged ∙ e))
     (judged ∙ ap (look below cells x (numbered l.lead)) named)
     ∙ l.invariant
@@ -66,5 +66,5 @@ pub returns : goal.returns
 returns g c =
     c.follow.ensures
     ∙ ap (look g.K.Key.below (map cell_of c.args.cells.now) c.args.target (numbered c.loop-passed.lead)) c.place-2.ensures
-    ∙ walk_last g.K.Key.below (map cell_of c.args.cells.now) c.args.target c.args.room c.loop-passed._passed (numbered c.loop-passed.lead) (place_named c.loop-passed.link) c.loop-passed-test.false
+    ∙ walk_last g.K.Key.below (map cell_of c.args.cells.now) c.args.target c.args.room c.loop-passed._passed (numbered c.loop-passed.lead) (place_named c.loop-passed.link.number) c.loop-passed-test.false
     ∙ c.loop-passed.invariant

@@ -10,4 +10,4 @@ abbrev pub invariant-loop-passed : goal.invariant-loop-passed
 invariant-loop-passed g l =
     let below = g.K.Key.below in
     let cells = map cell_of l.cells in
-    walk below cells l.target (l.room - l._passed) (numbered l.lead) (place_named l.link) ≡ walk below cells l.target l.room (numbered l.initial.lead) (place_named l.initial.link)
+    walk below cells l.target (l.room - l._passed) (numbered l.lead) (place_named l.link.number) ≡ walk below cells l.target l.room (numbered l.initial.lead) (place_named l.initial.link.number)
