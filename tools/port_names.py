@@ -1,12 +1,12 @@
 #!/usr/bin/env python3
 """Gives this repository's own definitions and lemmas the names of the newer Rattle's style. Run once, at the top, after the kit's port.py.
 
-Usage: tools/port_names.py [--list]
+Usage: port_names.py [--list]        (at the top of the repository that is ported; --list only prints old and new)
 
-Words are in snake case (`memory_of`), types and facts that are types in camel case (`SameSizes`); a hyphen is in no name. The names are those that
-specs/ and proofs/ of the crates define: a definition, a field, a constructor, a parameter. What the check itself makes (`returns-in-..`), names of
-functions, exported names, strings, inputs and outputs stay. The table OTHERWISE has the names that no rule gives, since the plain new name was taken
-or says too little. --list only prints old and new.
+Words are in snake case (`memory_of`), types and facts that are types in camel case (`SameSizes`); a hyphen is in no name. Turned are the names that
+specs/ and proofs/ of the crates define or bind: what stands first in a line of a module (a definition, a field, a constructor), and the names of
+parameters, of `let` and of `λ`. Names of the library, what the check itself makes (`returns-in-..`), names of functions, exported names, strings,
+inputs and outputs stay. The table OTHERWISE has the names that no rule gives, since the plain new name was taken or says too little.
 """
 import pathlib
 import re
@@ -14,13 +14,13 @@ import sys
 
 LETTERS = "A-Za-z_Α-Ωα-κμ-ωℕ"
 WORD = re.compile(rf"[{LETTERS}][{LETTERS}0-9'₀-₉-]*")
-# Where two names would fall together (the second of each pair is the other name), or a name of the library stands.
+# The name, and its new name where another is there too: the two would fall together.
 OTHERWISE = {
     "answers_of": ("answers_lem", "answersOf"),  # a lemma; the other is a definition
     "answers-from": ("answers_computed", "answersFrom"),  # a lemma; the other is a definition
     "memory-of": ("lent_memory", "memoryOf"),  # of what is lent; the other is of a state
     "first-link": ("first_free", "firstLink"),  # of the free chain; the other is of the list
-    "getD-mapped": ("get_or_mapped", "getD-mapped"),  # of the library's word under its newer name
+    "getD-mapped": ("get_or_mapped", None),  # the library's `getD` is `get_or` now
 }
 # What stays: a module of the older kit, and parameters named after a type parameter.
 KEPT = {"the-variants", "actsF", "actsS", "tableF", "tableS"}
@@ -33,6 +33,7 @@ GOAL = re.compile(r"^(?:abbrev )?(?:pub (?:abbrev )?(?=\S)|(?=invariant-|decreas
 LIBRARY = re.compile(r"^\s*(?:pub\s+)?use\s+(Rattle[.·]std|mathlib|lib|Prim|denote|Rattle[.·]itoa)[^\s{]*\{([^}]*)\}", re.M)
 BOUND = re.compile(rf"[({{]((?:[{LETTERS}][{LETTERS}0-9'₀-₉-]*\s+)+):\s")
 LET = re.compile(rf"\blet\s+([{LETTERS}][{LETTERS}0-9'₀-₉-]*)\s*[:=]")
+STRING = re.compile(r'"(?:[^"\\]|\\.)*"')
 LAMBDA = re.compile(rf"λ((?:\s*[{LETTERS}][{LETTERS}0-9'₀-₉-]*)+)\s*\.")
 
 
@@ -70,8 +71,9 @@ def is_fact(name):
 
 
 def newer(name, names):
-    if name in OTHERWISE and OTHERWISE[name][1] in names:
-        return OTHERWISE[name][0]
+    new, other = OTHERWISE.get(name, (None, name))
+    if new and (other is None or other in names):
+        return new
     if is_fact(name):
         return "".join(part[0].upper() + part[1:] for part in name.split("-")) if "-" in name else name
     plain = name.replace("-", "_")
@@ -97,16 +99,27 @@ def turn(found, turned):
     return turned.get(word, word)
 
 
+def turn_all(text, turned):
+    """The text with its names turned, but for what stands in strings."""
+    parts, at = [], 0
+    for string in STRING.finditer(text):
+        parts += [WORD.sub(lambda m: turn(m, turned), text[at : string.start()]), string[0]]
+        at = string.end()
+    return "".join(parts) + WORD.sub(lambda m: turn(m, turned), text[at:])
+
+
 def main():
+    if sys.argv[1:] not in ([], ["--list"]):
+        sys.exit(__doc__)
     turned = table()
-    if "--list" in sys.argv:
+    if sys.argv[1:]:
         for old, new in sorted(turned.items()):
             print(old, new)
         return
     for pattern in ("*/specs/**/*.antt", "*/proofs/**/*.antt", "*/src/**/*.rt", "*/must-fail/*.edit"):
         for path in sources(pattern):
             text = path.read_text()
-            new = WORD.sub(lambda m: turn(m, turned), text)
+            new = turn_all(text, turned)
             if new != text:
                 path.write_text(new)
 

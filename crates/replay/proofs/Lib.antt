@@ -3,4 +3,4 @@ pub mod Ran
 pub mod Named
 pub mod Answering
 pub mod Whole
-pub mod Beginnings
+pub mod Openings

@@ -14,6 +14,7 @@ use Rattle.replay.specs.Answers.{asks_of}
 use Rattle.replay.specs.Texts.{outcomes, opened_text, text_of, Lawfully, Replayed}
 use Rattle.replay.specs.Views.{refused_by, Says}
 use Rattle.replay.proofs.Answering.{Told}
+use Rattle.replay.proofs.Openings.{replay_begins}
 
 never_both : (n : ℕ) (o : Option ℕ) → o ≡ Some n → o ≡ None → ⊥
 never_both n o e f = let z : ◌≡◌ {A = ℕ} 0 1 = cc in absurd (omega arith)
@@ -21,19 +22,24 @@ never_both n o e f = let z : ◌≡◌ {A = ℕ} 0 1 = cc in absurd (omega arith
 -- bytes that are not opened
 pub not_opened : (bytes text : List ℕ) (r : Refusal) → open_refusal bytes ≡ Some (refusal r).number → text ≡ line_of 0 (Refused r) → Replayed bytes text
 unfolding text_of
-not_opened bytes text r e t = record {
-  computed = t ∙ sym (ap (opened_text bytes) e);
-  lawful = λ f. absurd (never_both _ _ e f);
-  accounted = λ f. absurd (never_both _ _ e f);
-}
+not_opened bytes text r e t =
+    let computed : text ≡ text_of bytes = t ∙ sym (ap (opened_text bytes) e) in
+    record {
+      computed = computed;
+      begins = replay_begins bytes text computed;
+      lawful = λ f. absurd (never_both _ _ e f);
+      accounted = λ f. absurd (never_both _ _ e f);
+    }
 
 -- bytes that are opened: the text is that of what they say
 pub opened : (bytes text : List ℕ) (c : Calls) → ((i : ℕ) → Fits w8 (get_or bytes i 0)) → open_refusal bytes ≡ None → Says bytes c → Told c.setup (map ask_of (vec_items c.asks)) (refused_by c.stop) text → Replayed bytes text
 unfolding text_of
 opened bytes text c typed e s t =
     let asks = map ask_of (vec_items c.asks) in
+    let computed : text ≡ text_of bytes = t.0 ∙ (λ i. lines_from 1 (outcomes (s.setup i) (s.asks i) (s.stop i))) ∙ sym (ap (opened_text bytes) e) in
     record {
-      computed = t.0 ∙ (λ i. lines_from 1 (outcomes (s.setup i) (s.asks i) (s.stop i))) ∙ sym (ap (opened_text bytes) e);
+      computed = computed;
+      begins = replay_begins bytes text computed;
       lawful = λ _. subst (λ o. Lawfully o (asks_of (read_all bytes).entries)) s.setup (subst (λ l. Lawfully c.setup l) s.asks t.1);
       accounted = λ f. nothing_lost bytes (bytes_typed bytes typed) f;
     }

@@ -1,5 +1,5 @@
--- What the opening of a schedule is answered: whether the bytes are opened, and the line of their first record. It is where the text of the
--- whole replay begins. Assumes nothing.
+-- What the opening of a schedule is answered: the refusal to open the bytes, or else the line of their first record. The text of the whole
+-- replay begins with it. Assumes nothing.
 use Rattle.std.specs.Prelude.{◌≡◌, ℕ, Bool, cond, ◌&&◌, List, [], ◌++◌, length, drop, true, Some, None, Option, nat_le}
 use Rattle.basis.specs.declared.answer.Answer.{Answer}
 use Rattle.basis.specs.declared.answer.Answer.TheVariants.{Ok, Refused}
@@ -29,12 +29,12 @@ first_line ended = []
 first_line malformed = refused_line 1 11
 
 -- what bytes are answered: the refusal to open them on line 0, or else the first record's line
-abbrev pub opened_by : List ℕ → Option ℕ → List ℕ
-opened_by bytes (Some n) = refused_line 0 n
-opened_by bytes None = first_line (next_of true (length bytes) (drop 1 bytes))
+abbrev pub opening_text : List ℕ → Option ℕ → List ℕ
+opening_text bytes (Some n) = refused_line 0 n
+opening_text bytes None = first_line (next_of true (length bytes) (drop 1 bytes))
 
 abbrev pub opening_of : List ℕ → List ℕ
-opening_of bytes = opened_by bytes (open_refusal bytes)
+opening_of bytes = opening_text bytes (open_refusal bytes)
 
 -- a text that begins with another
 abbrev pub BeginsWith : List ℕ → List ℕ → Type 0

@@ -13,6 +13,7 @@ use Rattle.keys.specs.declared.sector.Sector.{Sector}
 use Rattle.list_law.specs.Performed.{Ask}
 use Rattle.replay.specs.Answers.{asks_of, setup_of, answers_by}
 use Rattle.replay.specs.Runs.{LawfulBy}
+use Rattle.replay.specs.Opening.{opening_of, BeginsWith}
 
 -- the refusal of the record at which reading stops, if it does not come to the end
 abbrev pub stopped : Reading → List Answer
@@ -60,6 +61,8 @@ Lawfully (Some (Abandon seat)) asks = Unit {0}
 pub record Replayed (bytes : List ℕ) (text : List ℕ) : Type 0 where
   -- the text is computed from the bytes
   pub computed : text ≡ text_of bytes
+  -- it begins with what the opening alone is answered
+  pub begins : BeginsWith text (opening_of bytes)
   -- its answers are those of a lawful run
   pub lawful : open_refusal bytes ≡ None → Lawfully (setup_of (read_all bytes).entries) (asks_of (read_all bytes).entries)
   -- its records are those that the bytes hold: none is skipped, none invented, and reading stops where the rest begins no record

@@ -1,7 +1,6 @@
 // What the opening of a schedule is answered: nothing is made, and no call is run.
 ghost use Rattle.std.specs.Prelude.{◌≡◌, IfOk, string_bytes};
-ghost use Rattle.replay.specs.Opening.{sizes_fit, setup_answer, opening_of, BeginsWith};
-ghost use Rattle.replay.specs.Texts.{text_of};
+ghost use Rattle.replay.specs.Opening.{sizes_fit, setup_answer, opening_of};
 
 use basis::answer::Answer;
 use basis::refusal::Refusal;
@@ -40,8 +39,7 @@ fn setup_answer(content: Record) -> Answer
 // The line that answers the first record of a schedule, or the refusal to open it; no line where there is no record. The text of a replay
 // begins with it.
 pub fn answer_opening(heap: Global, bytes: &[u8]) -> Result<String, AllocError>
-    ensures text { IfOk result (λ text. string_bytes text ≡ opening_of bytes.now) }
-    ensures begins { BeginsWith (text_of bytes.now) (opening_of bytes.now) }
+    ensures { IfOk result (λ text. string_bytes text ≡ opening_of bytes.now) }
 {
     let mut reader = match Reader::open(bytes) {
         Ok(reader) => reader,

@@ -15,7 +15,7 @@ use Rattle.schedule.specs.Lines.{line_of, lines_from, refused_line}
 use Rattle.schedule.proofs.Askings.{next_handed}
 use Rattle.replay.specs.Answers.{asks_of, setup_of, answers_by}
 use Rattle.replay.specs.Texts.{outcomes, stopped, opened_text, text_of}
-use Rattle.replay.specs.Opening.{sizes_fit, setup_answer, first_line, opened_by, opening_of, BeginsWith}
+use Rattle.replay.specs.Opening.{sizes_fit, setup_answer, first_line, opening_text, opening_of, BeginsWith}
 
 -- a setup's two numbers fit where making takes them: a replay lends sixteen rows
 and_sixteen : (b : Bool) → b ≡ (b && 16 == 16)
@@ -25,19 +25,19 @@ and_sixteen false = refl
 same_sizes : (n w : ℕ) → sizes_fit n w ≡ makes n 16 w
 same_sizes n w = ap (λ b. b && nat_le 1 w && nat_le w 64) (and_sixteen (nat_le 1 n && nat_le n 1008))
 
--- what answers the first record when it is a setup is what its opening is answered, and then what answers the calls
-first_of_setup : (r : Record) (asks : List (Ask Sector)) (stop : List Answer) → is_setup r ≡ true → BeginsWith (lines_from 1 (outcomes (Some r) asks stop)) (line_of 1 (setup_answer r))
+-- the lines of a schedule whose first record is a setup: the setup's line, and then those of the calls
+setup_begins : (r : Record) (asks : List (Ask Sector)) (stop : List Answer) → is_setup r ≡ true → BeginsWith (lines_from 1 (outcomes (Some r) asks stop)) (line_of 1 (setup_answer r))
 unfolding outcomes lines_from
-first_of_setup (Setup name n w) asks stop is = subst (λ b. BeginsWith (lines_from 1 (outcomes (Some (Setup name n w)) asks stop)) (line_of 1 (cond b Ok (Refused WrongSizes)))) (sym (same_sizes n w)) (go (makes n 16 w))
+setup_begins (Setup name n w) asks stop is = subst (λ b. BeginsWith (lines_from 1 (outcomes (Some (Setup name n w)) asks stop)) (line_of 1 (cond b Ok (Refused WrongSizes)))) (sym (same_sizes n w)) (go (makes n 16 w))
   where
     go : (b : Bool) → BeginsWith (lines_from 1 (cond b (Ok ∷ (answers_by name n w asks ++ stop)) (Refused WrongSizes ∷ []))) (line_of 1 (cond b Ok (Refused WrongSizes)))
     go true = (lines_from 2 (answers_by name n w asks ++ stop), refl)
     go false = ([], refl)
-first_of_setup (Join seat) asks stop is = absurd (true≢false (sym is))
-first_of_setup (Leave seat) asks stop is = absurd (true≢false (sym is))
-first_of_setup (Begin kind seat n) asks stop is = absurd (true≢false (sym is))
-first_of_setup (Step seat) asks stop is = absurd (true≢false (sym is))
-first_of_setup (Abandon seat) asks stop is = absurd (true≢false (sym is))
+setup_begins (Join seat) asks stop is = absurd (true≢false (sym is))
+setup_begins (Leave seat) asks stop is = absurd (true≢false (sym is))
+setup_begins (Begin kind seat n) asks stop is = absurd (true≢false (sym is))
+setup_begins (Step seat) asks stop is = absurd (true≢false (sym is))
+setup_begins (Abandon seat) asks stop is = absurd (true≢false (sym is))
 
 -- of bytes that are opened, by what the first asking gives
 module _ (b : ℕ) (rest : List ℕ) where
@@ -52,20 +52,24 @@ module _ (b : ℕ) (rest : List ℕ) where
 
   begins : (r : Reading) → next_of true total rest ≡ r → Begins r
   unfolding outcomes lines_from
-  begins (handed e left) is = first_of_setup e.content _ _ (next_handed true total rest e left is).here
+  begins (handed e left) is = setup_begins e.content _ _ (next_handed true total rest e left is).here
   begins ended is = ([], ap (λ x. lines_from 1 (stopped x)) is)
   begins malformed is = ([], ap (λ x. lines_from 1 (stopped x)) is)
 
-  opened_begins : BeginsWith (opened_text (b ∷ rest) None) (opened_by (b ∷ rest) None)
+  opened_begins : BeginsWith (opened_text (b ∷ rest) None) (opening_text (b ∷ rest) None)
   unfolding read_on
   opened_begins = begins _ refl
 
 -- of any bytes
-pub text_begins : (bytes : List ℕ) → BeginsWith (text_of bytes) (opening_of bytes)
+text_begins : (bytes : List ℕ) → BeginsWith (text_of bytes) (opening_of bytes)
 unfolding text_of
 text_begins bytes = go bytes (open_refusal bytes) refl
   where
-    go : (l : List ℕ) (o : Option ℕ) → open_refusal l ≡ o → BeginsWith (opened_text l o) (opened_by l o)
+    go : (l : List ℕ) (o : Option ℕ) → open_refusal l ≡ o → BeginsWith (opened_text l o) (opening_text l o)
     go l (Some n) is = ([], sym (append-nil (refused_line 0 n)))
     go [] None is = (_, refl)
     go (b ∷ rest) None is = opened_begins b rest
+
+-- of the text of a replay
+pub replay_begins : (bytes text : List ℕ) → text ≡ text_of bytes → BeginsWith text (opening_of bytes)
+replay_begins bytes text e = subst (λ t. BeginsWith t (opening_of bytes)) (sym e) (text_begins bytes)
