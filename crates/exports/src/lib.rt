@@ -2,7 +2,7 @@
 #![tactic(auto)]
 
 ghost use Rattle.std.specs.Prelude.{◌≡◌};
-ghost use Rattle.exports.specs.Written.{Exported};
+ghost use Rattle.exports.specs.Written.{Placed, Exported};
 
 use keys::sector::Sector;
 use list_cells::cell::Cell;
@@ -14,21 +14,27 @@ const NO_MEMORY: usize = usize::MAX;
 
 const NO_ROOM: usize = usize::MAX - 1;
 
+// Writes a text into the room, and returns its length; where the room is too short, nothing is written, and the number says so.
+fn write_text(text: &[u8], room: &mut [u8]) -> usize
+    ensures { Placed text.now room.old room.new result }
+{
+    if text.len() > room.len() {
+        return NO_ROOM;
+    }
+    room[..text.len()].copy_from_slice(text);
+    text.len()
+}
+
 // Writes the text that answers a schedule into the room, and returns its length; where memory runs out or the room is too short, nothing
 // is written, and the number says which of the two it was.
 #[unsafe(no_mangle)]
 pub extern "C" fn marked_list_replay(heap: Global, bytes: &[u8], room: &mut [u8]) -> usize
     ensures { Exported bytes.now room.old room.new result }
 {
-    let Ok(text) = replay(heap, bytes) else {
-        return NO_MEMORY;
-    };
-    let answered = text.as_bytes();
-    if answered.len() > room.len() {
-        return NO_ROOM;
+    match replay(heap, bytes) {
+        Err(_) => NO_MEMORY,
+        Ok(text) => write_text(text.as_bytes(), room),
     }
-    room[..answered.len()].copy_from_slice(answered);
-    answered.len()
 }
 
 // How many bytes a cell with a sector takes.
@@ -38,3 +44,6 @@ pub extern "C" fn marked_list_cell_bytes() -> usize
 {
     std::mem::size_of::<Cell<Sector>>()
 }
+
+#[cfg(test)]
+mod tests;

@@ -1,5 +1,6 @@
 // The full scheme: a mark for each seat, and a revoke that looks at all of them. It is strict.
 ghost use Rattle.std.specs.Prelude.{◌≡◌, true, length, None, slice_index_or, slice_set};
+ghost use Rattle.marks.specs.Carried.{ActsBy};
 ghost use Rattle.marks.specs.Marks.{numbered, Unmarked, names, cleared};
 ghost use Rattle.marks.specs.Full.{full_state, full_new, full_act, full_get};
 
@@ -71,7 +72,7 @@ impl Scheme for Full {
 
     ghost strict = { true };
 
-    ghost acts = { λ o a b. full_state b ≡ full_act o (full_state a) };
+    ghost acts = { ActsBy full_state full_act };
 
     fn reserve(&mut self, t: Seat, p: Place) {
         self.put(t, Some(p));

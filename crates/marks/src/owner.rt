@@ -1,6 +1,7 @@
 // The owner scheme: a mark for each seat, good as long as the seat owns the slot of the marked place. It is relaxed: a
 // reserve takes the slot from whoever owned it.
 ghost use Rattle.std.specs.Prelude.{◌≡◌, false, Some, None, slice_index_or, slice_set};
+ghost use Rattle.marks.specs.Carried.{ActsBy};
 ghost use Rattle.marks.specs.Marks.{numbered, seat_number, Unmarked, names};
 ghost use Rattle.marks.specs.Spread.{slot};
 ghost use Rattle.marks.specs.Owner.{Sixteens, owner_state, owner_new, owner_act, owner_get};
@@ -84,7 +85,7 @@ impl Scheme for Owner {
 
     ghost strict = { false };
 
-    ghost acts = { λ o a b. owner_state b ≡ owner_act o (owner_state a) };
+    ghost acts = { ActsBy owner_state owner_act };
 
     fn reserve(&mut self, t: Seat, p: Place) {
         self.take(t, p);

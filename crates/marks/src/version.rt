@@ -2,6 +2,7 @@
 // relaxed: a revoke drops every mark of the slot.
 ghost use Rattle.std.specs.Prelude.{◌≡◌, ◌+◌, ◌<◌, false, Some, None, slice_index, slice_index_or, slice_set};
 ghost use Rattle.std.specs.Option.{option_map};
+ghost use Rattle.marks.specs.Carried.{ActsBy};
 ghost use Rattle.marks.specs.Marks.{Unmarked, cleared};
 ghost use Rattle.marks.specs.Version.{Sixteens, Sound, stamped, seen_of, kept_in, counter_of, version_state, version_new, version_revoke, version_act, version_get};
 
@@ -140,7 +141,7 @@ impl Scheme for Version {
 
     ghost strict = { false };
 
-    ghost acts = { λ o a b. version_state b.kept ≡ version_act o (version_state a.kept) };
+    ghost acts = { ActsBy (λ s. version_state s.kept) version_act };
 
     fn reserve(&mut self, t: Seat, p: Place) {
         self.kept.stamp(t, p);

@@ -8,6 +8,7 @@ use Rattle.marks.specs.declared.version.Version as version
 use Rattle.marks.specs.Full.{full_state, full_new, full_act, full_get}
 use Rattle.marks.specs.Owner.{owner_state, owner_new, owner_act, owner_get}
 use Rattle.marks.specs.Version.{version_state, version_new, version_act, version_get}
+use Rattle.marks.specs.Carried.{ActsBy}
 use Rattle.list_law.specs.Making.{makes}
 use Rattle.list_law.specs.Performed.{Ask}
 use Rattle.records.specs.declared.record.SchemeName.TheVariants.{Full, Owner, Version}
@@ -22,14 +23,14 @@ said (Ok (Some x)) P Q R f h = f x h
 said (Err e) P Q R f h = h
 
 module _ (n w : ℕ) (asks : List (Ask Sector)) (answers : List Answer) (sizes : makes n 16 w ≡ true) where
-  pub by_full : (m : full.Full) → full_state m ≡ full_new → Over (λ (s : full.Full). full_get (full_state s)) true (λ o a b. full_state b ≡ full_act o (full_state a)) (blank n) w m asks answers → Answered Full n w asks answers
+  pub by_full : (m : full.Full) → full_state m ≡ full_new → Over (λ (s : full.Full). full_get (full_state s)) true (ActsBy full_state full_act) (blank n) w m asks answers → Answered Full n w asks answers
   unfolding answers_by
   by_full m e o = record { sizes = sizes; computed = over_computes full_state full_get true full_act (blank n) w m asks answers full_new e o; lawful = (m, e, o) }
 
-  pub by_owner : (m : owner.Owner) → owner_state m ≡ owner_new → Over (λ (s : owner.Owner). owner_get (owner_state s)) false (λ o a b. owner_state b ≡ owner_act o (owner_state a)) (blank n) w m asks answers → Answered Owner n w asks answers
+  pub by_owner : (m : owner.Owner) → owner_state m ≡ owner_new → Over (λ (s : owner.Owner). owner_get (owner_state s)) false (ActsBy owner_state owner_act) (blank n) w m asks answers → Answered Owner n w asks answers
   unfolding answers_by
   by_owner m e o = record { sizes = sizes; computed = over_computes owner_state owner_get false owner_act (blank n) w m asks answers owner_new e o; lawful = (m, e, o) }
 
-  pub by_version : (m : version.Version) → version_state m.kept ≡ version_new 0 → Over (λ (s : version.Version). version_get (version_state s.kept)) false (λ o a b. version_state b.kept ≡ version_act o (version_state a.kept)) (blank n) w m asks answers → Answered Version n w asks answers
+  pub by_version : (m : version.Version) → version_state m.kept ≡ version_new 0 → Over (λ (s : version.Version). version_get (version_state s.kept)) false (ActsBy (λ (s : version.Version). version_state s.kept) version_act) (blank n) w m asks answers → Answered Version n w asks answers
   unfolding answers_by
   by_version m e o = record { sizes = sizes; computed = over_computes (λ (s : version.Version). version_state s.kept) version_get false version_act (blank n) w m asks answers (version_new 0) e o; lawful = (m, e, o) }

@@ -1,5 +1,5 @@
 -- The text of a replay begins with what the opening is answered. Assumes nothing.
-use Rattle.std.proofs.Common.{◌≡◌, ℕ, suc, Bool, true, false, cond, ◌&&◌, List, [], ◌∷◌, ◌++◌, length, Some, None, Option, refl, sym, ap, subst, append-nil, nat_le, ◌==◌, true≢false}
+use Rattle.std.proofs.Common.{◌≡◌, ℕ, suc, Bool, true, false, cond, List, [], ◌∷◌, ◌++◌, length, Some, None, Option, refl, sym, ap, subst, append-nil, true≢false}
 use Rattle.basis.specs.declared.answer.Answer.{Answer}
 use Rattle.basis.specs.declared.answer.Answer.TheVariants.{Ok, Refused}
 use Rattle.basis.specs.declared.refusal.Refusal.TheVariants.{WrongSizes}
@@ -15,20 +15,12 @@ use Rattle.schedule.specs.Lines.{line_of, lines_from, refused_line}
 use Rattle.schedule.proofs.Askings.{next_handed}
 use Rattle.replay.specs.Answers.{asks_of, setup_of, answers_by}
 use Rattle.replay.specs.Texts.{outcomes, stopped, opened_text, text_of}
-use Rattle.replay.specs.Opening.{sizes_fit, setup_answer, first_line, opening_text, opening_of, BeginsWith}
-
--- a setup's two numbers fit where making takes them: a replay lends sixteen rows
-and_sixteen : (b : Bool) → b ≡ (b && 16 == 16)
-and_sixteen true = refl
-and_sixteen false = refl
-
-same_sizes : (n w : ℕ) → sizes_fit n w ≡ makes n 16 w
-same_sizes n w = ap (λ b. b && nat_le 1 w && nat_le w 64) (and_sixteen (nat_le 1 n && nat_le n 1008))
+use Rattle.replay.specs.Opening.{setup_answer, first_line, opening_text, opening_of, BeginsWith}
 
 -- the lines of a schedule whose first record is a setup: the setup's line, and then those of the calls
 setup_begins : (r : Record) (asks : List (Ask Sector)) (stop : List Answer) → is_setup r ≡ true → BeginsWith (lines_from 1 (outcomes (Some r) asks stop)) (line_of 1 (setup_answer r))
 unfolding outcomes lines_from
-setup_begins (Setup name n w) asks stop is = subst (λ b. BeginsWith (lines_from 1 (outcomes (Some (Setup name n w)) asks stop)) (line_of 1 (cond b Ok (Refused WrongSizes)))) (sym (same_sizes n w)) (go (makes n 16 w))
+setup_begins (Setup name n w) asks stop is = go (makes n 16 w)
   where
     go : (b : Bool) → BeginsWith (lines_from 1 (cond b (Ok ∷ (answers_by name n w asks ++ stop)) (Refused WrongSizes ∷ []))) (line_of 1 (cond b Ok (Refused WrongSizes)))
     go true = (lines_from 2 (answers_by name n w asks ++ stop), refl)

@@ -6,6 +6,7 @@ use Rattle.basis.specs.declared.answer.Answer.{Answer}
 use Rattle.basis.specs.declared.answer.Answer.TheVariants.{Ok, Refused}
 use Rattle.keys.specs.declared.sector.Sector.{Sector}
 use Rattle.marks.specs.Meaning.{Table, Order}
+use Rattle.marks.specs.Carried.{ActsBy}
 use Rattle.list_driver.specs.Asks.{runnable, Ran}
 use Rattle.list_law.specs.Call.{Cell, State}
 use Rattle.list_law.specs.Making.{makes}
@@ -56,6 +57,6 @@ over_as table strict acts w m asks e f o = subst (λ (x : List (Cell Sector) × 
 
 -- over a scheme whose acts are a function of its state, the answers are computed from that state
 pub over_computes : {M N : Type 0} (state : M → N) (get : N → Table) (strict : Bool) (act : Order → N → N) (given : List (Cell Sector)) (w : ℕ) (m : M) (asks : List (Ask Sector)) (answers : List Answer) (n : N) → state m ≡ n
-    → Over (λ (x : M). get (state x)) strict (λ o a b. state b ≡ act o (state a)) given w m asks answers → answers ≡ answers_from sector_below get act given w n asks
+    → Over (λ (x : M). get (state x)) strict (ActsBy state act) given w m asks answers → answers ≡ answers_from sector_below get act given w n asks
 over_computes state get strict act given w m asks answers n e o =
     answers_computed sector_below state get strict act given w m o.start asks answers o.end o.made o.released o.driven.in_turn ∙ ap (λ x. answers_from sector_below get act given w x asks) e

@@ -1,17 +1,18 @@
 -- What the opening of a schedule is answered: the refusal to open the bytes, or else the line of their first record. The text of the whole
 -- replay begins with it. Assumes nothing.
-use Rattle.std.specs.Prelude.{◌≡◌, ℕ, Bool, cond, ◌&&◌, List, [], ◌++◌, length, drop, true, Some, None, Option, nat_le}
+use Rattle.std.specs.Prelude.{◌≡◌, ℕ, Bool, cond, List, [], ◌++◌, length, drop, true, Some, None, Option}
 use Rattle.basis.specs.declared.answer.Answer.{Answer}
 use Rattle.basis.specs.declared.answer.Answer.TheVariants.{Ok, Refused}
 use Rattle.basis.specs.declared.refusal.Refusal.TheVariants.{WrongSizes, BadRecord}
+use Rattle.list_law.specs.Making.{makes}
 use Rattle.records.specs.declared.record.Record.{Record}
 use Rattle.records.specs.declared.record.Record.TheVariants.{Setup, Join, Leave, Begin, Step, Abandon}
 use Rattle.schedule.specs.Reading.{Reading, handed, ended, malformed, next_of, open_refusal}
 use Rattle.schedule.specs.Lines.{line_of, refused_line}
 
--- 1 to 1,008 cells, and a window of 1 to 64
+-- the sizes that making takes with the sixteen rows that a replay lends: 1 to 1,008 cells, and a window of 1 to 64
 abbrev pub sizes_fit : ℕ → ℕ → Bool
-sizes_fit cells window = nat_le 1 cells && nat_le cells 1008 && nat_le 1 window && nat_le window 64
+sizes_fit cells window = makes cells 16 window
 
 -- what a setup is answered; the reader hands out no other record first
 abbrev pub setup_answer : Record → Answer

@@ -9,6 +9,7 @@ use Rattle.marks.specs.Meaning.{Table, Order, Along}
 use Rattle.marks.specs.Full.{full_state, full_new, full_act, full_get}
 use Rattle.marks.specs.Owner.{owner_state, owner_new, owner_act, owner_get}
 use Rattle.marks.specs.Version.{version_state, version_new, version_act, version_get}
+use Rattle.marks.specs.Carried.{ActsBy}
 use Rattle.list_law.specs.Call.{Cell, State, Obeys}
 use Rattle.list_law.specs.Making.{makes, releases, made_of}
 use Rattle.list_law.specs.Performed.{Ask}
@@ -32,11 +33,11 @@ pub record Over {M : Type 0} (table : M → Table) (strict : Bool) (acts : Order
 -- which is as new before the making
 abbrev pub LawfulBy : SchemeName → ℕ → ℕ → List (Ask Sector) → List Answer → Type 0
 LawfulBy Full n w asks answers =
-    (m : full.Full) × (full_state m ≡ full_new) × Over (λ (s : full.Full). full_get (full_state s)) true (λ o a b. full_state b ≡ full_act o (full_state a)) (blank n) w m asks answers
+    (m : full.Full) × (full_state m ≡ full_new) × Over (λ (s : full.Full). full_get (full_state s)) true (ActsBy full_state full_act) (blank n) w m asks answers
 LawfulBy Owner n w asks answers =
-    (m : owner.Owner) × (owner_state m ≡ owner_new) × Over (λ (s : owner.Owner). owner_get (owner_state s)) false (λ o a b. owner_state b ≡ owner_act o (owner_state a)) (blank n) w m asks answers
+    (m : owner.Owner) × (owner_state m ≡ owner_new) × Over (λ (s : owner.Owner). owner_get (owner_state s)) false (ActsBy owner_state owner_act) (blank n) w m asks answers
 LawfulBy Version n w asks answers =
-    (m : version.Version) × (version_state m.kept ≡ version_new 0) × Over (λ (s : version.Version). version_get (version_state s.kept)) false (λ o a b. version_state b.kept ≡ version_act o (version_state a.kept)) (blank n) w m asks answers
+    (m : version.Version) × (version_state m.kept ≡ version_new 0) × Over (λ (s : version.Version). version_get (version_state s.kept)) false (ActsBy (λ (s : version.Version). version_state s.kept) version_act) (blank n) w m asks answers
 
 -- the calls of a schedule are answered as computed, and lawfully
 pub record Answered (name : SchemeName) (n w : ℕ) (asks : List (Ask Sector)) (answers : List Answer) : Type 0 where
