@@ -11,11 +11,11 @@ use Rattle.records.specs.declared.record.Record.TheVariants.{Setup, Join, Leave,
 use Rattle.records.specs.Records.{is_setup}
 use Rattle.schedule.specs.Reading.{Reading, handed, ended, malformed, next_of, open_refusal}
 use Rattle.schedule.specs.Schedules.{Listing, read_on, read_more, still}
-use Rattle.schedule.specs.Lines.{line_of, lines_from, refused_line}
+use Rattle.schedule.specs.Lines.{line_of, lines_from, refused_line, BeginsWith}
 use Rattle.schedule.proofs.Askings.{next_handed}
 use Rattle.replay.specs.Answers.{asks_of, setup_of, answers_by}
 use Rattle.replay.specs.Texts.{outcomes, stopped, opened_text, text_of}
-use Rattle.replay.specs.Opening.{setup_answer, first_line, opening_text, opening_of, BeginsWith}
+use Rattle.replay.specs.Opening.{setup_answer, first_line, opening_text, opening_of}
 
 -- the lines of a schedule whose first record is a setup: the setup's line, and then those of the calls
 setup_begins : (r : Record) (asks : List (Ask Sector)) (stop : List Answer) → is_setup r ≡ true → BeginsWith (lines_from 1 (outcomes (Some r) asks stop)) (line_of 1 (setup_answer r))

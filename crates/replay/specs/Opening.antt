@@ -1,6 +1,6 @@
 -- What the opening of a schedule is answered: the refusal to open the bytes, or else the line of their first record. The text of the whole
 -- replay begins with it. Assumes nothing.
-use Rattle.std.specs.Prelude.{◌≡◌, ℕ, Bool, cond, List, [], ◌++◌, length, drop, true, Some, None, Option}
+use Rattle.std.specs.Prelude.{ℕ, Bool, cond, List, [], length, drop, true, Some, None, Option}
 use Rattle.basis.specs.declared.answer.Answer.{Answer}
 use Rattle.basis.specs.declared.answer.Answer.TheVariants.{Ok, Refused}
 use Rattle.basis.specs.declared.refusal.Refusal.TheVariants.{WrongSizes, BadRecord}
@@ -36,7 +36,3 @@ opening_text bytes None = first_line (next_of true (length bytes) (drop 1 bytes)
 
 abbrev pub opening_of : List ℕ → List ℕ
 opening_of bytes = opening_text bytes (open_refusal bytes)
-
--- a text that begins with another
-abbrev pub BeginsWith : List ℕ → List ℕ → Type 0
-BeginsWith text front = (rest : List ℕ) × (text ≡ front ++ rest)

@@ -8,12 +8,12 @@ use Rattle.records.specs.declared.record.Record.{Record}
 use Rattle.records.specs.declared.record.Record.TheVariants.{Setup, Join, Leave, Begin, Step, Abandon}
 use Rattle.schedule.specs.Reading.{Reading, handed, ended, malformed, next_of, open_refusal}
 use Rattle.schedule.specs.Schedules.{read_all, still, Accounted}
-use Rattle.schedule.specs.Lines.{lines_from, refused_line}
+use Rattle.schedule.specs.Lines.{lines_from, refused_line, BeginsWith}
 use Rattle.keys.specs.declared.sector.Sector.{Sector}
 use Rattle.list_law.specs.Performed.{Ask}
 use Rattle.replay.specs.Answers.{asks_of, setup_of, answers_by}
 use Rattle.replay.specs.Runs.{LawfulBy}
-use Rattle.replay.specs.Opening.{opening_of, BeginsWith}
+use Rattle.replay.specs.Opening.{opening_of}
 
 -- the refusal of the record at which reading stops, if it does not come to the end
 abbrev pub stopped : Reading → List Answer

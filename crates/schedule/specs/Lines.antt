@@ -1,5 +1,5 @@
 -- The line that answers a record. Assumes nothing.
-use Rattle.std.specs.Prelude.{ℕ, suc, List, [], ◌∷◌, ◌++◌, codes, decimal}
+use Rattle.std.specs.Prelude.{◌≡◌, ℕ, suc, List, [], ◌∷◌, ◌++◌, codes, decimal}
 use Rattle.basis.specs.declared.answer.Answer.{Answer}
 use Rattle.basis.specs.Answers.{spaced, spoken}
 
@@ -15,3 +15,7 @@ lines_from n (a ∷ rest) = line_of n a ++ lines_from (suc n) rest
 -- the line of a refusal, by its number
 abbrev pub refused_line : ℕ → ℕ → List ℕ
 refused_line n refusal = decimal n ++ 32 ∷ (codes "refused" ++ (spaced (refusal ∷ []) ++ 10 ∷ []))
+
+-- a text that begins with another
+abbrev pub BeginsWith : List ℕ → List ℕ → Type 0
+BeginsWith text front = (rest : List ℕ) × (text ≡ front ++ rest)

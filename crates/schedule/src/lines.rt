@@ -1,7 +1,7 @@
 // The lines that answer a schedule.
-ghost use Rattle.std.specs.Prelude.{◌≡◌, ◌+◌, ◌<◌, ◌≤◌, [], ◌∷◌, ◌++◌, length, IfOk, OnOk, string_bytes, decimal, slice_index_or};
+ghost use Rattle.std.specs.Prelude.{◌≡◌, ◌+◌, ◌<◌, ◌≤◌, [], ◌∷◌, ◌++◌, length, IfOk, OnOk, OnErr, string_bytes, decimal, slice_index_or};
 ghost use Rattle.basis.specs.Answers.{spoken};
-ghost use Rattle.schedule.specs.Lines.{line_of, lines_from};
+ghost use Rattle.schedule.specs.Lines.{line_of, lines_from, BeginsWith};
 
 use basis::answer::Answer;
 use basis::refusal::Refusal;
@@ -53,7 +53,8 @@ fn five_digits(number: usize) -> [u8; 5]
 // Adds a number. Most lines of a long schedule have four or five digits, which are written at once.
 #[inline(always)]
 fn push_number(text: &mut String, number: usize) -> Result<(), AllocError>
-    ensures { OnOk result (string_bytes text.new ≡ string_bytes text.old ++ decimal number) }
+    ensures ok { OnOk result (string_bytes text.new ≡ string_bytes text.old ++ decimal number) }
+    ensures err { OnErr result (BeginsWith (string_bytes text.new) (string_bytes text.old)) }
 {
     if 1000 <= number && number < 10000 {
         let digits = four_digits(number);
@@ -69,7 +70,8 @@ fn push_number(text: &mut String, number: usize) -> Result<(), AllocError>
 
 // Adds what stands behind the number in the line of a refusal.
 fn push_refusal(text: &mut String, refusal: Refusal) -> Result<(), AllocError>
-    ensures { OnOk result (string_bytes text.new ≡ string_bytes text.old ++ 32 ∷ (spoken (Answer.Refused refusal) ++ 10 ∷ [])) }
+    ensures ok { OnOk result (string_bytes text.new ≡ string_bytes text.old ++ 32 ∷ (spoken (Answer.Refused refusal) ++ 10 ∷ [])) }
+    ensures err { OnErr result (BeginsWith (string_bytes text.new) (string_bytes text.old)) }
 {
     let mut digits = Buffer::new();
     text.push_str(" refused ")?;
@@ -80,7 +82,8 @@ fn push_refusal(text: &mut String, refusal: Refusal) -> Result<(), AllocError>
 // Adds what stands behind the number in a line: a space, the answer, and a line feed.
 #[inline(always)]
 fn push_answer(text: &mut String, answer: Answer) -> Result<(), AllocError>
-    ensures { OnOk result (string_bytes text.new ≡ string_bytes text.old ++ 32 ∷ (spoken answer ++ 10 ∷ [])) }
+    ensures ok { OnOk result (string_bytes text.new ≡ string_bytes text.old ++ 32 ∷ (spoken answer ++ 10 ∷ [])) }
+    ensures err { OnErr result (BeginsWith (string_bytes text.new) (string_bytes text.old)) }
 {
     match answer {
         Answer::No => text.push_str(" no\n"),
@@ -95,7 +98,8 @@ fn push_answer(text: &mut String, answer: Answer) -> Result<(), AllocError>
 // Adds the line of a record: its number, a space, the answer, and a line feed.
 #[inline(always)]
 pub fn push_line(text: &mut String, number: usize, answer: Answer) -> Result<(), AllocError>
-    ensures { OnOk result (string_bytes text.new ≡ string_bytes text.old ++ line_of number answer) }
+    ensures ok { OnOk result (string_bytes text.new ≡ string_bytes text.old ++ line_of number answer) }
+    ensures err { OnErr result (BeginsWith (string_bytes text.new) (string_bytes text.old)) }
 {
     push_number(text, number)?;
     push_answer(text, answer)
@@ -110,14 +114,16 @@ fn push_line_of(
     index: usize,
 ) -> Result<(), AllocError>
     requires { index < length answers.now }
-    ensures { OnOk result (string_bytes text.new ≡ string_bytes text.old ++ line_of number (slice_index_or answers.now index Answer.No)) }
+    ensures ok { OnOk result (string_bytes text.new ≡ string_bytes text.old ++ line_of number (slice_index_or answers.now index Answer.No)) }
+    ensures err { OnErr result (BeginsWith (string_bytes text.new) (string_bytes text.old)) }
 {
     push_line(text, number, answers[index])
 }
 
 // Adds the lines of answers one after another, the first with that number.
 pub fn push_lines(text: &mut String, first: u16, answers: &[Answer]) -> Result<(), AllocError>
-    ensures { OnOk result (string_bytes text.new ≡ string_bytes text.old ++ lines_from first answers.now) }
+    ensures ok { OnOk result (string_bytes text.new ≡ string_bytes text.old ++ lines_from first answers.now) }
+    ensures err { OnErr result (BeginsWith (string_bytes text.new) (string_bytes text.old)) }
 {
     for index in 0..answers.len() {
         push_line_of(text, usize::from(first) + index, answers, index)?;

@@ -17,7 +17,7 @@ loop-index-preserved c =
     let first = c.args.first in
     let number = c.from.result + at in
     let before = string_bytes c.args.text.now in
-    c.in_ok-push_line_of.ensures
+    c.in_ok-push_line_of.ensures.ok
     ∙ ap (λ t. t ++ line_of number (get_or answers at No)) c.loop-index.invariant
     ∙ append_assoc before (lines_from first (take at answers)) (line_of number (get_or answers at No))
     ∙ ap (λ t. before ++ t) (
@@ -26,4 +26,7 @@ loop-index-preserved c =
     )
 
 pub returns : goal.returns
-returns c = c.loop-index.invariant ∙ ap (λ l. string_bytes c.args.text.now ++ lines_from c.args.first l) (take_all c.loop-index.index c.args.answers.now (omega arith))
+returns c = record {
+  ok = c.loop-index.invariant ∙ ap (λ l. string_bytes c.args.text.now ++ lines_from c.args.first l) (take_all c.loop-index.index c.args.answers.now (omega arith));
+  err = tt;
+}
