@@ -3,11 +3,9 @@
 #![tactic(auto)]
 
 pub mod answer;
-pub mod bank_bit;
+pub mod bounded;
 pub mod kind;
 pub mod mask;
-pub mod place;
 pub mod refusal;
-pub mod seat;
 #[cfg(test)]
 mod tests;

@@ -1,49 +1,40 @@
 // The numbers that a caller may get in place of an answer.
-ghost use Rattle.std.specs.Prelude.{◌≡◌, codes};
-ghost use Rattle.basis.specs.Told.{Case};
+ghost use Rattle.std.specs.Prelude.{◌≡◌, Some};
 ghost use Rattle.basis.specs.Refusals.{refusal};
+
+use std::fmt;
 
 // Why a call was refused. Each case is named by its meaning; its number is the one that a caller sees.
 #[derive(Clone, Copy, PartialEq, Eq, Debug)]
 pub enum Refusal {
-    OutOfRange,
-    WrongSizes,
-    MaskRaised,
-    NotAway,
-    Away,
-    AlreadyRunning,
-    NotRunning,
-    BadLink,
-    ScheduleTooLong,
-    NoVersionByte,
-    BadRecord,
+    OutOfRange = 1,
+    WrongSizes = 2,
+    MaskRaised = 3,
+    NotAway = 4,
+    Away = 5,
+    AlreadyRunning = 6,
+    NotRunning = 7,
+    BadLink = 8,
+    ScheduleTooLong = 9,
+    NoVersionByte = 10,
+    BadRecord = 11,
 }
 
-impl Refusal {
-    // The number that stands for this refusal, 1 to 11.
-    pub fn number(self) -> u8
-        ensures { result ≡ (refusal self).number }
-    {
-        match self {
-            Refusal::OutOfRange => 1,
-            Refusal::WrongSizes => 2,
-            Refusal::MaskRaised => 3,
-            Refusal::NotAway => 4,
-            Refusal::Away => 5,
-            Refusal::AlreadyRunning => 6,
-            Refusal::NotRunning => 7,
-            Refusal::BadLink => 8,
-            Refusal::ScheduleTooLong => 9,
-            Refusal::NoVersionByte => 10,
-            Refusal::BadRecord => 11,
-        }
-    }
+// The number that stands for a refusal, 1 to 11.
+impl From<Refusal> for u8 {
+    ghost from_gives = { λ r n. n ≡ (refusal r).number };
 
-    // The refusal in a few words, for a person.
-    pub fn word(self) -> &'static str
-        ensures { result.now ≡ (refusal self).word }
-    {
-        match self {
+    fn from(refusal: Refusal) -> u8 {
+        refusal as u8
+    }
+}
+
+// A refusal in a few words, for a person.
+impl fmt::Display for Refusal {
+    ghost output = { λ r. Some (refusal r).word };
+
+    fn fmt<W: fmt::Write>(&self, f: &mut fmt::Formatter<W>) -> fmt::Result {
+        f.write_str(match *self {
             Refusal::OutOfRange => "number out of range",
             Refusal::WrongSizes => "wrong sizes",
             Refusal::MaskRaised => "mask already raised",
@@ -55,6 +46,6 @@ impl Refusal {
             Refusal::ScheduleTooLong => "schedule too long",
             Refusal::NoVersionByte => "no first byte 1",
             Refusal::BadRecord => "bad record",
-        }
+        })
     }
 }

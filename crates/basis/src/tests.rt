@@ -2,22 +2,20 @@
 ghost use Rattle.std.specs.Prelude.{◌≡◌};
 
 use crate::answer::Answer;
-use crate::bank_bit::BankBit;
+use crate::bounded::{BankBit, Place, Seat};
 use crate::mask::{Guard, Mask};
-use crate::place::Place;
 use crate::refusal::Refusal;
-use crate::seat::Seat;
 use std::test::Fail;
 
 #[test]
 fn ranges_end_where_they_should(rt: HostRuntime) -> Result<(), Fail> {
-    assert!(rt; Seat::new(0).is_ok());
-    assert_eq!(rt; Seat::new(15)?.number(), 15);
-    assert_eq!(rt; Seat::new(16), Err(Refusal::OutOfRange));
-    assert_eq!(rt; Place::new(1007)?.number(), 1007);
-    assert_eq!(rt; Place::new(1008), Err(Refusal::OutOfRange));
-    assert_eq!(rt; BankBit::new(3)?.number(), 3);
-    assert_eq!(rt; BankBit::new(4), Err(Refusal::OutOfRange));
+    assert!(rt; Seat::try_from(0).is_ok());
+    assert_eq!(rt; Seat::try_from(15)?.number(), 15);
+    assert_eq!(rt; Seat::try_from(16), Err(Refusal::OutOfRange));
+    assert_eq!(rt; Place::try_from(1007)?.number(), 1007);
+    assert_eq!(rt; Place::try_from(1008), Err(Refusal::OutOfRange));
+    assert_eq!(rt; BankBit::try_from(3)?.number(), 3);
+    assert_eq!(rt; BankBit::try_from(4), Err(Refusal::OutOfRange));
     Ok(())
 }
 

@@ -5,7 +5,7 @@ ghost use Rattle.std.proofs.Common.{rules};
 use crate::key::Key;
 
 // A logical sector of the card, by its 32-bit number.
-#[derive(Clone, Copy, PartialEq, Eq, Debug)]
+#[derive(Clone, Copy, PartialEq, Eq, PartialOrd, Ord, Debug)]
 pub struct Sector {
     pub number: u32,
 }
@@ -21,6 +21,6 @@ impl Key for Sector {
     ghost same_transitive = { Prim.search rules };
 
     fn is_below(self, other: Sector) -> bool {
-        self.number < other.number
+        self < other
     }
 }

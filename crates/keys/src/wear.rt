@@ -9,7 +9,7 @@ use basis::refusal::Refusal;
 
 // An erase count and the block's number. A plain record: the order's laws hold of every one, and `new` makes only those
 // whose count a block can have.
-#[derive(Clone, Copy, PartialEq, Eq, Debug)]
+#[derive(Clone, Copy, PartialEq, Eq, PartialOrd, Ord, Debug)]
 pub struct Wear {
     pub count: u16,
     pub block: u16,
@@ -28,7 +28,7 @@ impl Wear {
     }
 }
 
-// Counts decide first, then blocks.
+// Counts decide first, then blocks, as the fields stand.
 impl Key for Wear {
     ghost below = { wear_below };
 
@@ -39,10 +39,6 @@ impl Key for Wear {
     ghost same_transitive = { Prim.search rules };
 
     fn is_below(self, other: Wear) -> bool {
-        if self.count == other.count {
-            self.block < other.block
-        } else {
-            self.count < other.count
-        }
+        self < other
     }
 }

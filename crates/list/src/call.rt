@@ -10,9 +10,9 @@ ghost use Rattle.list.specs.Calls.{call_of};
 ghost use Rattle.list_window.specs.Applied.{state_of};
 
 use basis::answer::Answer;
+use basis::bounded::Seat;
 use basis::mask::{Guard, Mask};
 use basis::refusal::Refusal;
-use basis::seat::Seat;
 use keys::key::Key;
 use list_cells::cell::{Anchor, Cell};
 use list_window::perform::perform;
@@ -23,7 +23,7 @@ use marks::scheme::Scheme;
 fn seat_of(seat: u8) -> Option<Seat>
     ensures { MatchOption result (nat_lt seat 16 ≡ false) (λ t. (t.number ≡ seat) × (nat_lt seat 16 ≡ true)) }
 {
-    match Seat::new(seat) {
+    match Seat::try_from(seat) {
         Ok(taken) => Some(taken),
         Err(_) => None,
     }

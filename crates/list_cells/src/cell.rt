@@ -5,7 +5,7 @@ ghost use Rattle.list_law.specs.Call.{cell};
 ghost use Rattle.list_cells.specs.Views.{cell_of};
 
 use crate::link::Link;
-use basis::place::Place;
+use basis::bounded::Place;
 use keys::key::Key;
 
 // A cell: a key, the link to the next cell or the end of its chain, and whether it is listed; else it is free.

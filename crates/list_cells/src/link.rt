@@ -3,7 +3,7 @@ ghost use Rattle.std.specs.Prelude.{◌≡◌, ◌≤◌};
 ghost use Rattle.marks.specs.Marks.{numbered};
 ghost use Rattle.list_cells.specs.Links.{place_named};
 
-use basis::place::Place;
+use basis::bounded::Place;
 
 // The number of no place, which stands for the end of a chain.
 const END: u16 = 1008;
@@ -34,7 +34,7 @@ impl Link {
     pub fn place(self) -> Option<Place>
         ensures { numbered result ≡ place_named self.number }
     {
-        match Place::new(self.number) {
+        match Place::try_from(self.number) {
             Ok(place) => Some(place),
             Err(_) => None,
         }

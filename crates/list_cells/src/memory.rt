@@ -6,14 +6,14 @@ ghost use Rattle.list_cells.specs.Views.{cell_of, lent_memory, SameSizes};
 
 use crate::cell::{Anchor, Cell};
 use crate::walk::cell_at;
-use basis::place::Place;
+use basis::bounded::Place;
 use keys::key::Key;
 
 // The cell at a place is written whole.
 fn store<K: Key>(cells: &mut [Cell<K>], place: Place, cell: Cell<K>)
     ensures { map cell_of cells.new ≡ rewritten (map cell_of cells.old) place.number (λ _. cell_of cell) }
 {
-    let at = place.number() as usize;
+    let at = place.index();
     if at < cells.len() {
         cells[at] = cell;
     }

@@ -8,7 +8,7 @@ ghost use Rattle.list_cells.specs.Views.{cell_of, found_of, met_of};
 
 use crate::cell::Cell;
 use crate::link::Link;
-use basis::place::Place;
+use basis::bounded::Place;
 use keys::key::Key;
 
 // What a link leads to, for a window on its way to a target.
@@ -49,7 +49,7 @@ fn cell_numbered<K: Key>(cells: &[Cell<K>], at: usize) -> Option<&Cell<K>>
 pub fn cell_at<K: Key>(cells: &[Cell<K>], place: Place) -> Option<&Cell<K>>
     ensures { found_of result ≡ slice_get (map cell_of cells.now) place.number }
 {
-    cell_numbered(cells, place.number() as usize)
+    cell_numbered(cells, place.index())
 }
 
 // What the cell at a place is to a walk that was led there.

@@ -11,9 +11,8 @@ ghost use Rattle.list_making.specs.Chained.{next_number, fresh};
 ghost use Rattle.list_window.specs.Applied.{state_of};
 
 use basis::answer::Answer;
-use basis::place::Place;
+use basis::bounded::{Place, Seat};
 use basis::refusal::Refusal;
-use basis::seat::Seat;
 use keys::key::Key;
 use list_cells::cell::{Anchor, Cell};
 use list_window::row::{Doing, Row};
@@ -26,7 +25,7 @@ fn link_after(at: usize, count: usize) -> Option<Place>
 {
     let next = at + 1;
     if next < count {
-        Place::new(next as u16).ok()
+        Place::try_from(next as u16).ok()
     } else {
         None
     }
@@ -72,7 +71,7 @@ fn known_seat(number: u8) -> Seat
     requires { number < 16 }
     ensures { result.number ≡ number }
 {
-    match Seat::new(number) {
+    match Seat::try_from(number) {
         Ok(seat) => seat,
         Err(_) => unreachable(),
     }
@@ -103,7 +102,7 @@ fn fresh_anchor(count: usize, window: u8) -> Anchor
         count: count as u16,
         window,
         head: None,
-        free: Place::new(0).ok(),
+        free: Place::try_from(0).ok(),
     }
 }
 

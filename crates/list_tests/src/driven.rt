@@ -1,7 +1,7 @@
 // Lists of calls, run by the driver: the same schedule at each key and scheme, and what the driver refuses.
 use crate::lent::{away, cell};
 use basis::answer::Answer;
-use basis::bank_bit::BankBit;
+use basis::bounded::BankBit;
 use basis::kind::Kind;
 use basis::mask::Mask;
 use basis::refusal::Refusal;
@@ -145,8 +145,8 @@ fn check_schemes<K: Key>(
     check_run(rt, cells, rows, &mut version, asks);
     let mut last = Version::new(4_294_967_295);
     check_run(rt, cells, rows, &mut last, asks);
-    let inner = Pair::new(Full::new(), Owner::new(), BankBit::new(0)?);
-    let mut nested = Pair::new(inner, Version::new(4_294_967_295), BankBit::new(3)?);
+    let inner = Pair::new(Full::new(), Owner::new(), BankBit::try_from(0)?);
+    let mut nested = Pair::new(inner, Version::new(4_294_967_295), BankBit::try_from(3)?);
     check_run(rt, cells, rows, &mut nested, asks);
     Ok(())
 }

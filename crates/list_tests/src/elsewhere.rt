@@ -2,10 +2,9 @@
 // harm; and a cell that is linked to itself shows the order of the writes.
 use crate::lent::{Lent, begin_of, cell, link_to};
 use basis::answer::Answer;
+use basis::bounded::{Place, Seat};
 use basis::kind::Kind;
-use basis::place::Place;
 use basis::refusal::Refusal;
-use basis::seat::Seat;
 use list_window::turn::Request;
 use marks::scheme::Scheme;
 use std::process::Abort;
@@ -41,7 +40,7 @@ fn check_bad_head(rt: &impl Abort, head: u16, target: u32) {
 fn check_bad_mark(rt: &impl Abort, mark: u16, target: u32) -> Result<(), Fail> {
     for kind in [Kind::Lookup, Kind::Insert, Kind::Remove] {
         let mut lent = Lent::listed();
-        lent.scheme.reserve(Seat::new(0)?, Place::new(mark)?);
+        lent.scheme.reserve(Seat::try_from(0)?, Place::try_from(mark)?);
         check_bad(rt, &mut lent, kind, target);
     }
     Ok(())
@@ -83,7 +82,7 @@ fn a_bad_link_is_refused(rt: HostRuntime) {
 #[test]
 fn a_bad_link_behind_the_mark_is_refused(rt: HostRuntime) -> Result<(), Fail> {
     let mut lent = Lent::listed();
-    lent.scheme.reserve(Seat::new(0)?, Place::new(1)?);
+    lent.scheme.reserve(Seat::try_from(0)?, Place::try_from(1)?);
     lent.cells[1] = cell(20, Some(2), true);
     check_bad(&rt, &mut lent, Kind::Lookup, 30);
     Ok(())
@@ -168,8 +167,8 @@ fn a_cell_linked_to_itself_is_removed_from_the_head(rt: HostRuntime) {
 fn a_cell_linked_to_itself_is_removed_from_its_mark(rt: HostRuntime) -> Result<(), Fail> {
     let mut lent = Lent::listed();
     lent.cells[0] = cell(10, Some(0), true);
-    lent.scheme.reserve(Seat::new(0)?, Place::new(0)?);
-    lent.scheme.reserve(Seat::new(9)?, Place::new(0)?);
+    lent.scheme.reserve(Seat::try_from(0)?, Place::try_from(0)?);
+    lent.scheme.reserve(Seat::try_from(9)?, Place::try_from(0)?);
     check_step(&rt, &mut lent, Kind::Remove, 10, Answer::Yes);
     let after = lent.picture();
     assert_eq!(rt; after.head, Some(0));

@@ -1,9 +1,8 @@
 // What the tests lend to an index, and how they look at it.
 use basis::answer::Answer;
+use basis::bounded::{Place, Seat};
 use basis::kind::Kind;
 use basis::mask::Mask;
-use basis::place::Place;
-use basis::seat::Seat;
 use keys::sector::Sector;
 use list::calls::{abandon, begin, join, leave, step};
 use list_cells::cell::{Anchor, Cell};
@@ -47,7 +46,7 @@ pub struct Picture {
 // The link to that place; none stands for the end.
 pub(crate) fn link_to(number: Option<u16>) -> Option<Place> {
     match number {
-        Some(n) => Place::new(n).ok(),
+        Some(n) => Place::try_from(n).ok(),
         None => None,
     }
 }
@@ -138,7 +137,7 @@ impl Lent {
     }
 
     fn mark_of(&self, number: u8) -> Option<u16> {
-        match Seat::new(number) {
+        match Seat::try_from(number) {
             Ok(seat) => number_of(self.scheme.get(seat)),
             Err(_) => None,
         }

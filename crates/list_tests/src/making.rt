@@ -1,10 +1,9 @@
 // What making leaves of cells, rows, anchor and marks that were used before.
 use crate::lent::{Lent, Shown, begin_of, cell, link_to};
 use basis::answer::Answer;
+use basis::bounded::{Place, Seat};
 use basis::kind::Kind;
-use basis::place::Place;
 use basis::refusal::Refusal;
-use basis::seat::Seat;
 use list_making::making::make;
 use list_window::turn::Request;
 use marks::owner::Owner;
@@ -20,7 +19,7 @@ fn used(rt: &impl Abort) -> Result<Lent, Fail> {
     lent.anchor.free = link_to(Some(900));
     assert_eq!(rt; lent.call(0, begin_of(Kind::Insert, 15)), Answer::Ok);
     for seat in 0..16u8 {
-        lent.scheme.reserve(Seat::new(seat)?, Place::new(2)?);
+        lent.scheme.reserve(Seat::try_from(seat)?, Place::try_from(2)?);
     }
     Ok(lent)
 }
@@ -57,12 +56,12 @@ fn a_refused_making_alters_nothing(rt: HostRuntime) -> Result<(), Fail> {
 // A making releases the marks that a scheme has from before; each seat can mark again.
 fn check_released<S: Scheme>(rt: &impl Abort, scheme: &mut S) -> Result<(), Fail> {
     let mut lent = Lent::listed();
-    let first = Seat::new(0)?;
-    let last = Seat::new(15)?;
-    let place = Place::new(1)?;
-    scheme.reserve(first, Place::new(0)?);
+    let first = Seat::try_from(0)?;
+    let last = Seat::try_from(15)?;
+    let place = Place::try_from(1)?;
+    scheme.reserve(first, Place::try_from(0)?);
     scheme.reserve(last, place);
-    assert_eq!(rt; scheme.get(first), Some(Place::new(0)?));
+    assert_eq!(rt; scheme.get(first), Some(Place::try_from(0)?));
     assert_eq!(rt;
         make(&mut lent.cells, &mut lent.rows, &mut lent.anchor, scheme, 2),
         Answer::Ok

@@ -6,13 +6,13 @@ ghost use Rattle.list_window.specs.Rows.{row_of};
 ghost use Rattle.list_window.specs.Turns.{what_of, turn_of};
 ghost use Rattle.list_window.specs.Applied.{state_of, Applied};
 
+use basis::bounded::Seat;
 use crate::row::{Doing, Row};
 use crate::seats::{put_row, row_at};
 use crate::turn::{Request, Turn, turn_at};
 use crate::window::run_window;
 use basis::answer::Answer;
 use basis::mask::Guard;
-use basis::seat::Seat;
 use keys::key::Key;
 use list_cells::cell::{Anchor, Cell};
 use marks::scheme::Scheme;

@@ -3,15 +3,15 @@ ghost use Rattle.std.specs.Prelude.{◌≡◌, ◌<◌, map, length, slice_set};
 ghost use Rattle.list_law.specs.Call.{row_at};
 ghost use Rattle.list_window.specs.Rows.{row_of, doing_of};
 
+use basis::bounded::Seat;
 use crate::row::{Doing, Row};
-use basis::seat::Seat;
 use keys::key::Key;
 
 // What a seat is about; a row that is not there is away.
 pub fn row_at<K: Key>(rows: &[Row<K>], seat: Seat) -> Doing<K>
     ensures { doing_of result ≡ row_at (map row_of rows.now) seat.number }
 {
-    let at = seat.number() as usize;
+    let at = seat.index();
     if at < rows.len() {
         let row = &rows[at];
         row.doing
@@ -24,7 +24,7 @@ pub fn row_at<K: Key>(rows: &[Row<K>], seat: Seat) -> Doing<K>
 pub fn put_row<K: Key>(rows: &mut [Row<K>], seat: Seat, doing: Doing<K>)
     ensures { map row_of rows.new ≡ slice_set (map row_of rows.old) seat.number (doing_of doing) }
 {
-    let at = seat.number() as usize;
+    let at = seat.index();
     if at < rows.len() {
         rows[at] = Row { doing };
     }

@@ -4,10 +4,10 @@ ghost use Rattle.list_law.specs.Call.{turn};
 ghost use Rattle.list_window.specs.Rows.{doing_of};
 ghost use Rattle.list_window.specs.Turns.{what_of, turn_of};
 
+use basis::bounded::Seat;
 use crate::row::Doing;
 use basis::kind::Kind;
 use basis::refusal::Refusal;
-use basis::seat::Seat;
 use keys::key::Key;
 
 // What a seat may ask of the index.

@@ -5,13 +5,12 @@ ghost use Rattle.list_law.specs.Call.{reach, refused, ended, waiting, unlinked, 
 ghost use Rattle.list_cells.specs.Views.{cell_of, lent_memory, met_of};
 ghost use Rattle.list_window.specs.Applied.{state_of, Applied};
 
+use basis::bounded::{Place, Seat};
 use crate::row::{Doing, Row};
 use crate::seats::put_row;
 use basis::answer::Answer;
 use basis::kind::Kind;
-use basis::place::Place;
 use basis::refusal::Refusal;
-use basis::seat::Seat;
 use keys::key::Key;
 use list_cells::cell::{Anchor, Cell};
 use list_cells::memory::{link_in, unlink};

@@ -1,13 +1,15 @@
 -- What the owner scheme does to its state is what the orders mean. Assumes nothing.
-use Rattle.std.proofs.Common.{◌≡◌, ℕ, ◌<◌, Bool, true, false, cond, List, length, get_or, set, Some, None, Option, sym, refl, ap, ◌∙◌, subst, inl, inr, ⊎_elim, arith}
+use Rattle.std.proofs.Common.{◌≡◌, ℕ, ◌<◌, Bool, true, false, cond, List, map, length, get_or, set, Some, None, Option, sym, refl, ap, ◌∙◌, subst, ap₂, inl, inr, ⊎_elim, arith}
 use Rattle.std.proofs.lemmas.List.{get_or-set_same, get_or-set_other, length-map}
 use Rattle.std.proofs.lemmas.Bool.{eq-eqb, ne_eqb, cases_eq}
+use Rattle.basis.specs.declared.bounded.Bounded.{Bounded}
 use Rattle.marks.specs.declared.owner.Owner.{Owner}
-use Rattle.marks.specs.Meaning.{Order, Means, Seated, Kept}
+use Rattle.marks.specs.Meaning.{Order, Means, Reserved, Released, Revoked, Seated, Kept}
 use Rattle.marks.specs.Meaning.Order.{release, reserve, revoke}
-use Rattle.marks.specs.Marks.{numbered, seat_number, names}
+use Rattle.marks.specs.Marks.{numbered, names}
 use Rattle.marks.specs.Spread.{slot}
-use Rattle.marks.specs.Owner.{Owned, Sixteens, owner_state, owner_act, owner_get, if_owned}
+use Rattle.marks.specs.Owner.{Owned, owned, Sixteens, owner_state, owner_act, owner_get, if_owned}
+use Rattle.marks.proofs.Cleared.{set_mapped}
 use Rattle.marks.proofs.Slots.{slot_below}
 
 -- what is answered is the mark
@@ -52,7 +54,36 @@ module _ (s : Owned) (marks16 : length s.marks ≡ 16) (owners16 : length s.owne
   }
 
 -- where the state is what the order makes of it, the order is carried out as it means
-pub owner_means : (s after : Owner) → Sixteens s → (o : Order) → Seated o → owner_state after ≡ owner_act o (owner_state s) → Means false o (owner_get (owner_state s)) (owner_get (owner_state after))
+owner_means : (s after : Owner) → Sixteens s → (o : Order) → Seated o → owner_state after ≡ owner_act o (owner_state s) → Means false o (owner_get (owner_state s)) (owner_get (owner_state after))
 owner_means s after sixteen o h e =
     subst (λ x. Means false o (owner_get (owner_state s)) (owner_get x)) (sym e)
-    (meant (owner_state s) (length-map s.marks numbered ∙ sixteen.0) (length-map s.owners seat_number ∙ sixteen.1) o h)
+    (meant (owner_state s) (length-map s.marks numbered ∙ sixteen.0) (length-map s.owners numbered ∙ sixteen.1) o h)
+
+-- marks and owners of a scheme, as it stands after a write
+abbrev pub owner : List (Option (Bounded 1008)) → List (Option (Bounded 16)) → Owner
+owner ms os = record { marks = ms; owners = os }
+
+-- the mark of seat t is written at an index i that is the seat's number, and the owner of place p at an index k that is its slot
+module _ (s : Owner) (i : ℕ) (t : Bounded 16) (same : i ≡ t.number) where
+  marked : (m : Option (Bounded 1008)) → map numbered (set s.marks i m) ≡ set (map numbered s.marks) t.number (numbered m)
+  marked m = set_mapped (λ p. p.number) s.marks _ _ m (ap (λ j. set s.marks j m) same)
+
+  pub release_acts : owner_state (owner (set s.marks i None) s.owners) ≡ owner_act (release t.number) (owner_state s)
+  release_acts = ap (λ ms. owned ms (map numbered s.owners)) (marked None)
+
+  pub release_means : length s.marks ≡ 16 → length s.owners ≡ 16 → Released t.number (owner_get (owner_state s)) (owner_get (owner_state (owner (set s.marks i None) s.owners)))
+  release_means marks16 owners16 = owner_means s _ (marks16, owners16) (release t.number) t.ok release_acts
+
+  module _ (k : ℕ) (p : Bounded 1008) (slotted : k ≡ slot p.number) where
+    pub reserve_acts : owner_state (owner (set s.marks i (Some p)) (set s.owners k (Some t))) ≡ owner_act (reserve t.number p.number) (owner_state s)
+    reserve_acts = ap₂ owned (marked (Some p)) (set_mapped (λ u. u.number) s.owners _ _ (Some t) (ap (λ j. set s.owners j (Some t)) slotted))
+
+    pub reserve_means : length s.marks ≡ 16 → length s.owners ≡ 16 → Reserved false t.number p.number (owner_get (owner_state s)) (owner_get (owner_state (owner (set s.marks i (Some p)) (set s.owners k (Some t)))))
+    reserve_means marks16 owners16 = owner_means s _ (marks16, owners16) (reserve t.number p.number) t.ok reserve_acts
+
+module _ (s : Owner) (k : ℕ) (p : Bounded 1008) (slotted : k ≡ slot p.number) where
+  pub revoke_acts : owner_state (owner s.marks (set s.owners k None)) ≡ owner_act (revoke p.number) (owner_state s)
+  revoke_acts = ap (owned (map numbered s.marks)) (set_mapped (λ u. u.number) s.owners _ _ None (ap (λ j. set s.owners j None) slotted))
+
+  pub revoke_means : length s.marks ≡ 16 → length s.owners ≡ 16 → Revoked false p.number (owner_get (owner_state s)) (owner_get (owner_state (owner s.marks (set s.owners k None))))
+  revoke_means marks16 owners16 = owner_means s _ (marks16, owners16) (revoke p.number) tt revoke_acts

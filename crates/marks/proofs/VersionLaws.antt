@@ -3,13 +3,14 @@ use Rattle.std.proofs.Common.{◌≡◌, ℕ, ◌+◌, ◌<◌, ◌≤◌, Bool,
 use Rattle.std.specs.Option.{option_map}
 use Rattle.std.proofs.lemmas.List.{get_or-set_same, get_or-set_other, length-map}
 use Rattle.std.proofs.lemmas.Bool.{eq-eqb, ne_eqb, eqb-true, eqb-false, cases_eq, cases_Bool}
+use Rattle.basis.specs.declared.bounded.Bounded.{Bounded}
 use Rattle.marks.specs.declared.version.Stamped.{Stamped}
 use Rattle.marks.specs.declared.version.Stamps.{Stamps}
-use Rattle.marks.specs.Meaning.{Order, Means, Seated}
+use Rattle.marks.specs.Meaning.{Order, Means, Reserved, Released, Seated}
 use Rattle.marks.specs.Meaning.Order.{release, reserve, revoke}
 use Rattle.marks.specs.Marks.{cleared}
 use Rattle.marks.specs.Spread.{slot}
-use Rattle.marks.specs.Version.{Seen, seen, Versioned, versioned, Sixteens, seen_of, version_state, counter_of, kept_in, raised, restarted, version_act, version_get, if_current, Sound}
+use Rattle.marks.specs.Version.{Seen, seen, Versioned, versioned, Sixteens, seen_of, stamped, version_state, counter_of, kept_in, raised, restarted, version_act, version_get, if_current, Sound}
 use Rattle.marks.proofs.Cleared.{cleared_at, cleared_cases, map_cleared, none_is_not_some, set_cases, set_mapped}
 use Rattle.marks.proofs.Slots.{slot_below}
 
@@ -122,9 +123,37 @@ module _ (s after : Stamps) (sixteen : Sixteens s) (sound : Sound (version_state
   pub version_sound : Sound (version_state after)
   version_sound = subst Sound (sym acted) (kept_sound (version_state s) marks16 sixteen.1 sound o h)
 
--- a mark is written: the state, with what is written under its name
-pub put_acted : (s after : Stamps) (t : ℕ) (m : Option Stamped) → after.marks ≡ set s.marks t m → after.counters ≡ s.counters → version_state after ≡ versioned (set (map (option_map seen_of) s.marks) t (option_map seen_of m)) s.counters
-put_acted s after t m marks counters = ap₂ versioned (set_mapped seen_of s.marks after.marks t m marks) counters
+-- one seat's mark is written, at an index that is the seat's number
+abbrev pub with_mark : Stamps → ℕ → Option Stamped → Stamps
+with_mark s i m = record { marks = set s.marks i m; counters = s.counters }
+
+module _ (s : Stamps) (i : ℕ) (t : Bounded 16) (same : i ≡ t.number) where
+  put_acted : (m : Option Stamped) → version_state (with_mark s i m) ≡ versioned (set (map (option_map seen_of) s.marks) t.number (option_map seen_of m)) s.counters
+  put_acted m = ap (λ ms. versioned ms s.counters) (set_mapped seen_of s.marks _ _ m (ap (λ j. set s.marks j m) same))
+
+  pub release_acts : version_state (with_mark s i None) ≡ version_act (release t.number) (version_state s)
+  release_acts = put_acted None
+
+  module _ (marks16 : length s.marks ≡ 16) (counters16 : length s.counters ≡ 16) (sound : Sound (version_state s)) where
+    pub release_means : Released t.number (version_get (version_state s)) (version_get (version_state (with_mark s i None)))
+    release_means = version_means s _ (marks16, counters16) sound (release t.number) t.ok release_acts
+
+    pub release_sound : Sound (version_state (with_mark s i None))
+    release_sound = version_sound s _ (marks16, counters16) sound (release t.number) t.ok release_acts
+
+  -- what is written is the place, with the counter that stands at an index that is its slot
+  module _ (k : ℕ) (p : Bounded 1008) (slotted : k ≡ slot p.number) where
+    pub reserve_acts : version_state (with_mark s i (Some (stamped p (get_or s.counters k 0)))) ≡ version_act (reserve t.number p.number) (version_state s)
+    reserve_acts =
+        put_acted (Some (stamped p (get_or s.counters k 0)))
+        ∙ ap (λ (j : ℕ). versioned (set (map (option_map seen_of) s.marks) t.number (Some (seen p.number (get_or s.counters j 0)))) s.counters) slotted
+
+    module _ (marks16 : length s.marks ≡ 16) (counters16 : length s.counters ≡ 16) (sound : Sound (version_state s)) where
+      pub reserve_means : Reserved false t.number p.number (version_get (version_state s)) (version_get (version_state (with_mark s i (Some (stamped p (get_or s.counters k 0))))))
+      reserve_means = version_means s _ (marks16, counters16) sound (reserve t.number p.number) t.ok reserve_acts
+
+      pub reserve_sound : Sound (version_state (with_mark s i (Some (stamped p (get_or s.counters k 0)))))
+      reserve_sound = version_sound s _ (marks16, counters16) sound (reserve t.number p.number) t.ok reserve_acts
 
 -- the counter of the slot j of place p is changed
 module _ (s after : Stamps) (p j : ℕ) (js : j ≡ slot p) where

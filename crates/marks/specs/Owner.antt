@@ -3,7 +3,7 @@ use Rattle.std.specs.Prelude.{◌≡◌, ℕ, cond, List, map, length, replicate
 use Rattle.marks.specs.declared.owner.Owner.{Owner}
 use Rattle.marks.specs.Meaning.{Order, Table}
 use Rattle.marks.specs.Meaning.Order.{release, reserve, revoke}
-use Rattle.marks.specs.Marks.{numbered, seat_number, names}
+use Rattle.marks.specs.Marks.{numbered, names}
 use Rattle.marks.specs.Spread.{slot}
 
 -- for each seat the place that it has marked, or none; for each slot the seat that owns it, or nobody
@@ -19,7 +19,7 @@ abbrev pub Sixteens : Owner → Type 0
 Sixteens s = (length s.marks ≡ 16) × (length s.owners ≡ 16)
 
 abbrev pub owner_state : Owner → Owned
-owner_state s = owned (map numbered s.marks) (map seat_number s.owners)
+owner_state s = owned (map numbered s.marks) (map numbered s.owners)
 
 -- no seat has a mark, and nobody owns a slot
 abbrev pub owner_new : Owned

@@ -1,6 +1,6 @@
 -- Two schemes side by side: a bit of the seat's number says which of the two a seat uses. Assumes nothing.
 use Rattle.std.specs.Prelude.{◌≡◌, ℕ, ◌/◌, ◌%◌, ◌^◌, Bool, cond, MatchBool, ◌==◌}
-use Rattle.basis.specs.declared.bank_bit.BankBit.{BankBit}
+use Rattle.basis.specs.declared.bounded.Bounded.{Bounded}
 use Rattle.marks.specs.declared.pair.Pair.{Pair}
 use Rattle.marks.specs.Meaning.{Order, Table}
 use Rattle.marks.specs.Meaning.Order.{release, reserve, revoke}
@@ -13,7 +13,7 @@ uses_second bit t = t / 2 ^ bit % 2 == 1
 abbrev pub banked : ℕ → Table → Table → Table
 banked bit first second t = cond (uses_second bit t) (second t) (first t)
 
-abbrev pub paired : {F S : Type 0} → F → S → BankBit → Pair F S
+abbrev pub paired : {F S : Type 0} → F → S → Bounded 4 → Pair F S
 paired f s b = record { first = f; second = s; bit = b }
 
 module _ {F S : Type 0} (tableF : F → Table) (tableS : S → Table) where

@@ -2,7 +2,7 @@
 -- Assumes nothing.
 use Rattle.std.specs.Prelude.{◌≡◌, ℕ, ◌+◌, ◌≤◌, Bool, false, cond, List, map, length, replicate, Some, None, Option, ◌==◌, slice_index, slice_index_or, slice_set}
 use Rattle.std.specs.Option.{option_map}
-use Rattle.basis.specs.declared.place.Place.{Place}
+use Rattle.basis.specs.declared.bounded.Bounded.{Bounded}
 use Rattle.marks.specs.declared.version.Stamped.{Stamped}
 use Rattle.marks.specs.declared.version.Stamps.{Stamps}
 use Rattle.marks.specs.Meaning.{Order, Table}
@@ -29,7 +29,7 @@ versioned ms cs = record { marks = ms; counters = cs }
 abbrev pub seen_of : Stamped → Seen
 seen_of m = seen m.place.number m.counter
 
-abbrev pub stamped : Place → ℕ → Stamped
+abbrev pub stamped : Bounded 1008 → ℕ → Stamped
 stamped p c = record { place = p; counter = c }
 
 -- there are sixteen marks and sixteen counters

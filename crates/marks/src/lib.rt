@@ -1,6 +1,7 @@
 // What a scheme of marks is, and the schemes.
 #![tactic(auto)]
 
+mod clearing;
 pub mod full;
 pub mod owner;
 pub mod pair;

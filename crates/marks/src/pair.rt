@@ -3,9 +3,7 @@ ghost use Rattle.std.specs.Prelude.{◌≡◌, ◌&&◌};
 ghost use Rattle.marks.specs.Pair.{uses_second, banked, paired, pair_table, pair_acts};
 
 use crate::scheme::{Scheme, Strict};
-use basis::bank_bit::BankBit;
-use basis::place::Place;
-use basis::seat::Seat;
+use basis::bounded::{BankBit, Place, Seat};
 
 // Seats in whose number that bit is 0 use the first scheme, the others the second.
 #[derive(Drop)]
@@ -32,6 +30,8 @@ impl<F: Scheme, S: Scheme> Pair<F, S> {
     }
 }
 
+// The bank is chosen in each method anew: the two are of two types, and one reference to either would have to be a `dyn`, which no
+// plain `if` needs.
 impl<F: Scheme, S: Scheme> Scheme for Pair<F, S> {
     ghost table = { pair_table F.Scheme.table S.Scheme.table };
 

@@ -4,8 +4,7 @@ ghost use Rattle.marks.specs.Meaning.{Table, Order, Means};
 ghost use Rattle.marks.specs.Meaning.Order.{release, reserve, revoke};
 ghost use Rattle.marks.specs.Marks.{numbered};
 
-use basis::place::Place;
-use basis::seat::Seat;
+use basis::bounded::{Place, Seat};
 
 // A way to keep the marks of sixteen seats. `table` is what it means, `strict` whether it drops no mark but those that an
 // order speaks of, and `acts` what exactly each order makes of it.

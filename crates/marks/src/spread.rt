@@ -2,7 +2,7 @@
 ghost use Rattle.std.specs.Prelude.{◌≡◌, ◌<◌, slice_index};
 ghost use Rattle.marks.specs.Spread.{entries, slot};
 
-use basis::place::Place;
+use basis::bounded::Place;
 
 const SPREAD: [u8; 16] = [0, 7, 14, 5, 12, 3, 10, 1, 8, 15, 6, 13, 4, 11, 2, 9];
 
@@ -18,5 +18,5 @@ pub fn slot_of(p: Place) -> usize
     ensures value { result ≡ slot p.number }
     ensures below { result < 16 }
 {
-    spread_entry(p.number() as usize % 16) as usize
+    spread_entry(p.index() % 16) as usize
 }

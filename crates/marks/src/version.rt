@@ -1,15 +1,15 @@
 // The version scheme: a counter for each slot, and marks that are good as long as the counter is the one they keep. It is
 // relaxed: a revoke drops every mark of the slot.
-ghost use Rattle.std.specs.Prelude.{◌≡◌, ◌+◌, ◌<◌, false, Some, None, slice_index, slice_index_or, slice_set};
+ghost use Rattle.std.specs.Prelude.{◌≡◌, ◌+◌, ◌<◌, false, slice_index, slice_set};
 ghost use Rattle.std.specs.Option.{option_map};
 ghost use Rattle.marks.specs.Carried.{ActsBy};
 ghost use Rattle.marks.specs.Marks.{Unmarked, cleared};
-ghost use Rattle.marks.specs.Version.{Sixteens, Sound, stamped, seen_of, kept_in, counter_of, version_state, version_new, version_revoke, version_act, version_get};
+ghost use Rattle.marks.specs.Version.{Sixteens, Sound, seen_of, kept_in, version_state, version_new, version_revoke, version_act, version_get};
 
+use crate::clearing::clear_where;
 use crate::scheme::Scheme;
 use crate::spread::slot_of;
-use basis::place::Place;
-use basis::seat::Seat;
+use basis::bounded::{Place, Seat};
 
 // A mark, and the counter of its place's slot when it was made.
 #[derive(Clone, Copy)]
@@ -48,24 +48,6 @@ impl Version {
 }
 
 impl Stamps {
-    // Writes the mark, with the counter of its slot.
-    fn stamp(&mut self, t: Seat, p: Place)
-        ensures sixteen { Sixteens self.old }
-        ensures marks { self.new.marks ≡ slice_set self.old.marks t.number (Some (stamped p (counter_of self.old.counters p.number))) }
-        ensures counters { self.new.counters ≡ self.old.counters }
-    {
-        let counter = self.counters[slot_of(p)];
-        self.marks[t.number() as usize] = Some(Stamped { place: p, counter });
-    }
-
-    fn clear(&mut self, t: Seat)
-        ensures sixteen { Sixteens self.old }
-        ensures marks { self.new.marks ≡ slice_set self.old.marks t.number None }
-        ensures counters { self.new.counters ≡ self.old.counters }
-    {
-        self.marks[t.number() as usize] = None;
-    }
-
     // The counter of that slot goes one up.
     fn raise(&mut self, slot: usize)
         requires { (slot < 16) × (slice_index self.old.counters slot < 4294967295) }
@@ -84,7 +66,9 @@ impl Stamps {
         ensures counters { self.new.counters ≡ slice_set self.old.counters slot 0 }
     {
         self.counters[slot] = 0;
-        clear_slot(&mut self.marks, slot);
+        clear_where(&mut self.marks, |mark| {
+            mark.is_some_and(|m| slot_of(m.place) == slot)
+        });
     }
 
     // One more revoke of place p is counted.
@@ -93,45 +77,10 @@ impl Stamps {
         ensures exact { version_state self.new ≡ version_revoke (version_state self.old) p.number }
     {
         let slot = slot_of(p);
-        let counter = self.counters[slot];
-        if counter == 4_294_967_295 {
+        if self.counters[slot] == 4_294_967_295 {
             self.restart(slot);
         } else {
             self.raise(slot);
-        }
-    }
-
-    fn mark_of(&self, t: Seat) -> Option<Stamped>
-        ensures { option_map seen_of result ≡ slice_index_or (version_state self.now).marks t.number None }
-    {
-        self.marks[t.number() as usize]
-    }
-
-    // The counter of the slot of place p.
-    fn counter_of(&self, p: Place) -> u32
-        ensures { result ≡ counter_of self.now.counters p.number }
-    {
-        self.counters[slot_of(p)]
-    }
-}
-
-// Whether the mark is kept in that slot.
-fn is_kept_in(mark: Option<Stamped>, slot: usize) -> bool
-    ensures { result ≡ kept_in slot (option_map seen_of mark) }
-{
-    match mark {
-        Some(m) => slot_of(m.place) == slot,
-        None => false,
-    }
-}
-
-// Clears each mark that is kept in that slot.
-fn clear_slot(marks: &mut [Option<Stamped>], slot: usize)
-    ensures { marks.new ≡ cleared (λ m. kept_in slot (option_map seen_of m)) marks.old }
-{
-    for mark in marks.iter_mut() {
-        if is_kept_in(*mark, slot) {
-            *mark = None;
         }
     }
 }
@@ -143,28 +92,27 @@ impl Scheme for Version {
 
     ghost acts = { ActsBy (λ s. version_state s.kept) version_act };
 
+    // Writes the mark, with the counter of its slot.
     fn reserve(&mut self, t: Seat, p: Place) {
-        self.kept.stamp(t, p);
+        let counter = self.kept.counters[slot_of(p)];
+        self.kept.marks[t.index()] = Some(Stamped { place: p, counter });
     }
 
     fn release(&mut self, t: Seat) {
-        self.kept.clear(t);
+        self.kept.marks[t.index()] = None;
     }
 
     fn revoke(&mut self, p: Place) {
         self.kept.count_revoke(p);
     }
 
+    // The mark, if there is one and the counter of its slot is still the one it keeps.
     fn get(&self, t: Seat) -> Option<Place> {
-        match self.kept.mark_of(t) {
-            Some(m) => {
-                if self.kept.counter_of(m.place) == m.counter {
-                    Some(m.place)
-                } else {
-                    None
-                }
-            }
-            None => None,
+        let mark = self.kept.marks[t.index()]?;
+        if self.kept.counters[slot_of(mark.place)] == mark.counter {
+            Some(mark.place)
+        } else {
+            None
         }
     }
 }

@@ -3,23 +3,19 @@ use Rattle.std.proofs.Common.{◌≡◌, ℕ, ◌<◌, List, [], ◌∷◌, map,
 use mathlib.Core.HLevel.{is_prop→PathP, Π_prop, →_prop}
 use native.Mathlib.Bridge.{le_prop}
 use Rattle.std.specs.Option.{option_map}
-use Rattle.basis.specs.declared.place.Place.{Place}
-use Rattle.basis.specs.declared.seat.Seat.{Seat}
+use Rattle.basis.specs.declared.bounded.Bounded.{Bounded}
 use Rattle.marks.specs.declared.version.Stamped.{Stamped}
 use Rattle.marks.specs.declared.version.Version.{Version}
 use Rattle.marks.specs.Owner.{Owned}
 use Rattle.marks.specs.Version.{Seen, Versioned, Sound, seen_of, version_state}
 use Rattle.scheme_examples.specs.Whole.{TellsAll, StatesTellAll}
 
-place_told : TellsAll (λ (p : Place). p.number)
-place_told p q e = λ i. record { number = e i; ok = is_prop→PathP (λ j. e j < 1008) (λ j. le_prop) p.ok q.ok i }
-
-seat_told : TellsAll (λ (t : Seat). t.number)
-seat_told t u e = λ i. record { number = e i; ok = is_prop→PathP (λ j. e j < 16) (λ j. le_prop) t.ok u.ok i }
+bounded_told : {END : ℕ} → TellsAll (λ (b : Bounded END). b.number)
+bounded_told {END} a b e = λ i. record { number = e i; ok = is_prop→PathP (λ j. e j < END) (λ j. le_prop) a.ok b.ok i }
 
 stamped_told : TellsAll seen_of
 stamped_told m n e =
-    ap₂ (λ (p : Place) (c : ℕ). record { place = p; counter = c }) (place_told m.place n.place (ap (λ (s : Seen). s.place) e)) (ap (λ (s : Seen). s.counter) e)
+    ap₂ (λ (p : Bounded 1008) (c : ℕ). record { place = p; counter = c }) (bounded_told m.place n.place (ap (λ (s : Seen). s.place) e)) (ap (λ (s : Seen). s.counter) e)
 
 option_told : {X Y : Type 0} (f : X → Y) → TellsAll f → TellsAll (option_map f)
 option_told f told None None e = refl
@@ -55,10 +51,10 @@ version_told a b e =
 
 pub states_tell_all : StatesTellAll
 states_tell_all = record {
-  full = λ a b e. ap (λ (ms : List (Option Place)). record { marks = ms }) (entries_told (λ (p : Place). p.number) place_told a.marks b.marks e);
+  full = λ a b e. ap (λ (ms : List (Option (Bounded 1008))). record { marks = ms }) (entries_told (λ (p : Bounded 1008). p.number) bounded_told a.marks b.marks e);
   owner = λ a b e.
-      ap₂ (λ (ms : List (Option Place)) (os : List (Option Seat)). record { marks = ms; owners = os })
-      (entries_told (λ (p : Place). p.number) place_told a.marks b.marks (ap (λ (s : Owned). s.marks) e))
-      (entries_told (λ (t : Seat). t.number) seat_told a.owners b.owners (ap (λ (s : Owned). s.owners) e));
+      ap₂ (λ (ms : List (Option (Bounded 1008))) (os : List (Option (Bounded 16))). record { marks = ms; owners = os })
+      (entries_told (λ (p : Bounded 1008). p.number) bounded_told a.marks b.marks (ap (λ (s : Owned). s.marks) e))
+      (entries_told (λ (t : Bounded 16). t.number) bounded_told a.owners b.owners (ap (λ (s : Owned). s.owners) e));
   version = version_told;
 }

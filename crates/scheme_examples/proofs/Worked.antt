@@ -1,6 +1,6 @@
 -- The worked examples computed, and carried over to runs of the code. Assumes nothing.
 use Rattle.std.proofs.Common.{◌≡◌, ℕ, Some, None, Option, refl, ap, ◌∙◌, ap₂, arith}
-use Rattle.basis.specs.declared.place.Place.{Place}
+use Rattle.basis.specs.declared.bounded.Bounded.{Bounded}
 use Rattle.marks.specs.Meaning.Order.{reserve, revoke}
 use Rattle.marks.specs.Marks.{numbered}
 use Rattle.marks.specs.Spread.{slot}
@@ -22,7 +22,7 @@ examples = record {
 }
 
 -- a mark without a number is none
-pub none_from : (m : Option Place) → numbered m ≡ None → m ≡ None
+pub none_from : (m : Option (Bounded 1008)) → numbered m ≡ None → m ≡ None
 none_from None e = refl
 none_from (Some p) e = let z : ◌≡◌ {A = ℕ} 0 1 = cc in absurd (omega arith)
 

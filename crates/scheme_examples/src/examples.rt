@@ -3,9 +3,8 @@ ghost use Rattle.std.specs.Prelude.{◌≡◌, true, None, Ok};
 ghost use Rattle.marks.specs.Spread.{slot};
 ghost use Rattle.scheme_examples.specs.Examples.{Examples};
 
-use basis::place::Place;
+use basis::bounded::{Place, Seat};
 use basis::refusal::Refusal;
-use basis::seat::Seat;
 use keys::key::Key;
 use keys::wear::Wear;
 use marks::owner::Owner;
@@ -29,10 +28,10 @@ fn compute_examples()
 pub fn owner_loses_its_slot() -> Result<Option<Place>, Refusal>
     ensures { result ≡ Ok None }
 {
-    let seat = Seat::new(0)?;
-    let other = Seat::new(1)?;
-    let place = Place::new(0)?;
-    let other_place = Place::new(16)?;
+    let seat = Seat::try_from(0)?;
+    let other = Seat::try_from(1)?;
+    let place = Place::try_from(0)?;
+    let other_place = Place::try_from(16)?;
     Ok(run_owner(seat, place, other, other_place))
 }
 
@@ -51,9 +50,9 @@ fn run_owner(t: Seat, p: Place, u: Seat, q: Place) -> Option<Place>
 pub fn version_starts_again() -> Result<Option<Place>, Refusal>
     ensures { result ≡ Ok None }
 {
-    let seat = Seat::new(0)?;
-    let place = Place::new(1)?;
-    let revoked = Place::new(17)?;
+    let seat = Seat::try_from(0)?;
+    let place = Place::try_from(1)?;
+    let revoked = Place::try_from(17)?;
     Ok(run_version(4_294_967_295, seat, place, revoked))
 }
 
@@ -74,8 +73,8 @@ pub fn slots_of_3_and_19() -> Result<(usize, usize), Refusal>
     ensures slots { result ≡ Ok (slot 3, slot 19) }
 {
     compute_examples();
-    let low = Place::new(3)?;
-    let high = Place::new(19)?;
+    let low = Place::try_from(3)?;
+    let high = Place::try_from(19)?;
     Ok((slot_of(low), slot_of(high)))
 }
 

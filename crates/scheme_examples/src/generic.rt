@@ -4,8 +4,7 @@ ghost use Rattle.marks.specs.Meaning.{Means, Along};
 ghost use Rattle.marks.specs.Meaning.Order.{release, reserve, revoke};
 ghost use Rattle.marks.specs.Marks.{numbered};
 
-use basis::place::Place;
-use basis::seat::Seat;
+use basis::bounded::{Place, Seat};
 use marks::scheme::{Scheme, Strict};
 
 // Seat t marks place p, the place is revoked at once, and t asks: its mark is gone, whatever the scheme.

@@ -1,12 +1,10 @@
 // The worked examples run, and each scheme at its edges: shared slots, the last counter, banks that do not meet.
+use basis::bounded::{BankBit, Place, Seat};
 use crate::examples::{
     counts_decide_first, examples_hold, owner_loses_its_slot, slots_of_3_and_19,
     version_starts_again,
 };
 use crate::uses::{beside_another_in_nested, revoked_at_each};
-use basis::bank_bit::BankBit;
-use basis::place::Place;
-use basis::seat::Seat;
 use marks::full::Full;
 use marks::owner::Owner;
 use marks::pair::Pair;
@@ -27,57 +25,57 @@ fn examples_run(rt: HostRuntime) -> Result<(), Fail> {
 // Places 4 and 20 share a slot.
 #[test]
 fn full_strikes_only_the_place(rt: HostRuntime) -> Result<(), Fail> {
-    let first = Seat::new(0)?;
-    let last = Seat::new(15)?;
+    let first = Seat::try_from(0)?;
+    let last = Seat::try_from(15)?;
     let mut scheme = Full::new();
-    scheme.reserve(first, Place::new(4)?);
-    scheme.reserve(last, Place::new(20)?);
-    scheme.revoke(Place::new(20)?);
-    assert_eq!(rt; scheme.get(first), Some(Place::new(4)?));
+    scheme.reserve(first, Place::try_from(4)?);
+    scheme.reserve(last, Place::try_from(20)?);
+    scheme.revoke(Place::try_from(20)?);
+    assert_eq!(rt; scheme.get(first), Some(Place::try_from(4)?));
     assert_eq!(rt; scheme.get(last), None);
     Ok(())
 }
 
 #[test]
 fn owner_keeps_its_slot_after_a_release(rt: HostRuntime) -> Result<(), Fail> {
-    let seat = Seat::new(3)?;
-    let other = Seat::new(4)?;
+    let seat = Seat::try_from(3)?;
+    let other = Seat::try_from(4)?;
     let mut scheme = Owner::new();
-    scheme.reserve(seat, Place::new(4)?);
-    scheme.reserve(other, Place::new(5)?);
+    scheme.reserve(seat, Place::try_from(4)?);
+    scheme.reserve(other, Place::try_from(5)?);
     scheme.release(seat);
     assert_eq!(rt; scheme.get(seat), None);
-    assert_eq!(rt; scheme.get(other), Some(Place::new(5)?));
+    assert_eq!(rt; scheme.get(other), Some(Place::try_from(5)?));
     Ok(())
 }
 
 // The counter of a slot passes its last number: its old mark stays gone, a new one is good, and another slot's mark stands.
 #[test]
 fn version_drops_the_slot_and_no_other(rt: HostRuntime) -> Result<(), Fail> {
-    let seat = Seat::new(1)?;
-    let other = Seat::new(2)?;
+    let seat = Seat::try_from(1)?;
+    let other = Seat::try_from(2)?;
     let mut scheme = Version::new(4_294_967_294);
-    scheme.reserve(seat, Place::new(6)?);
-    scheme.reserve(other, Place::new(7)?);
-    scheme.revoke(Place::new(22)?);
+    scheme.reserve(seat, Place::try_from(6)?);
+    scheme.reserve(other, Place::try_from(7)?);
+    scheme.revoke(Place::try_from(22)?);
     assert_eq!(rt; scheme.get(seat), None);
-    scheme.revoke(Place::new(22)?);
-    scheme.reserve(seat, Place::new(22)?);
-    assert_eq!(rt; scheme.get(seat), Some(Place::new(22)?));
-    assert_eq!(rt; scheme.get(other), Some(Place::new(7)?));
+    scheme.revoke(Place::try_from(22)?);
+    scheme.reserve(seat, Place::try_from(22)?);
+    assert_eq!(rt; scheme.get(seat), Some(Place::try_from(22)?));
+    assert_eq!(rt; scheme.get(other), Some(Place::try_from(7)?));
     Ok(())
 }
 
 // Seats 0 and 1 are in different banks, so the second's reserve takes no slot of the first, and a revoke reaches both.
 #[test]
 fn banks_do_not_meet_but_in_a_revoke(rt: HostRuntime) -> Result<(), Fail> {
-    let even = Seat::new(0)?;
-    let odd = Seat::new(1)?;
-    let mut scheme = Pair::new(Owner::new(), Owner::new(), BankBit::new(0)?);
-    scheme.reserve(even, Place::new(0)?);
-    scheme.reserve(odd, Place::new(16)?);
-    assert_eq!(rt; scheme.get(even), Some(Place::new(0)?));
-    scheme.revoke(Place::new(0)?);
+    let even = Seat::try_from(0)?;
+    let odd = Seat::try_from(1)?;
+    let mut scheme = Pair::new(Owner::new(), Owner::new(), BankBit::try_from(0)?);
+    scheme.reserve(even, Place::try_from(0)?);
+    scheme.reserve(odd, Place::try_from(16)?);
+    assert_eq!(rt; scheme.get(even), Some(Place::try_from(0)?));
+    scheme.revoke(Place::try_from(0)?);
     assert_eq!(rt; scheme.get(even), None);
     assert_eq!(rt; scheme.get(odd), None);
     Ok(())
@@ -85,21 +83,21 @@ fn banks_do_not_meet_but_in_a_revoke(rt: HostRuntime) -> Result<(), Fail> {
 
 #[test]
 fn generic_code_runs_at_each(rt: HostRuntime) -> Result<(), Fail> {
-    let seat = Seat::new(9)?;
-    let place = Place::new(1007)?;
-    let bit = BankBit::new(3)?;
-    let pair = Pair::new(Full::new(), Owner::new(), BankBit::new(1)?);
+    let seat = Seat::try_from(9)?;
+    let place = Place::try_from(1007)?;
+    let bit = BankBit::try_from(3)?;
+    let pair = Pair::new(Full::new(), Owner::new(), BankBit::try_from(1)?);
     let mut nested = Pair::new(pair, Version::new(7), bit);
     assert_eq!(rt;
         revoked_at_each(0, bit, &mut nested, seat, place),
         [None; 5]
     );
     assert_eq!(rt;
-        beside_another_in_nested(bit, BankBit::new(0)?, seat, seat, place),
+        beside_another_in_nested(bit, BankBit::try_from(0)?, seat, seat, place),
         Some(place)
     );
     assert_eq!(rt;
-        beside_another_in_nested(bit, BankBit::new(0)?, seat, Seat::new(8)?, place),
+        beside_another_in_nested(bit, BankBit::try_from(0)?, seat, Seat::try_from(8)?, place),
         None
     );
     Ok(())

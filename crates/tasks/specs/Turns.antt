@@ -1,6 +1,6 @@
 -- What a task asks, and what a call by a task does. Assumes nothing.
 use Rattle.std.specs.Prelude.{Bool, None, Option}
-use Rattle.basis.specs.declared.place.Place.{Place}
+use Rattle.basis.specs.declared.bounded.Bounded.{Bounded}
 use Rattle.basis.specs.declared.answer.Answer.{Answer}
 use Rattle.keys.specs.declared.wear.Wear.{Wear}
 use Rattle.keys.specs.Wear.{wear_below}
@@ -31,6 +31,6 @@ abbrev pub untaken : Task → Ask → Line
 untaken t a = record { turn = record { task = t; ask = a }; seen = None }
 
 -- the mark of a task
-abbrev pub mark_by : Marks → Task → Option Place
+abbrev pub mark_by : Marks → Task → Option (Bounded 1008)
 mark_by m Host = m.host
 mark_by m Cleaner = m.cleaner

@@ -2,10 +2,10 @@
 ghost use Rattle.std.specs.Prelude.{◌≡◌};
 ghost use Rattle.tasks.specs.Turns.{mark_by};
 
+use basis::bounded::Place;
 use crate::turn::{Ask, Line, Marks, Seen, Task};
 use basis::answer::Answer;
 use basis::kind::Kind;
-use basis::place::Place;
 use keys::wear::Wear;
 use list_cells::cell::Cell;
 use std::io;
@@ -96,7 +96,7 @@ fn print_list(rt: &HostRuntime, cells: [Cell<Wear>; 8], head: Option<Place>) -> 
         let Some(place) = link else {
             break;
         };
-        let at = place.number() as usize;
+        let at = place.index();
         if at >= 8 {
             break;
         }

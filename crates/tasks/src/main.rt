@@ -6,11 +6,11 @@ mod plan;
 mod station;
 mod turn;
 
+use basis::bounded::BankBit;
 use crate::account::print_account;
 use crate::plan::schedule;
 use crate::station::run_tasks;
 use crate::turn::Line;
-use basis::bank_bit::BankBit;
 use basis::refusal::Refusal;
 use keys::wear::Wear;
 use list_cells::cell::Cell;
@@ -21,7 +21,7 @@ use std::io;
 // Eight cells, a window of 2, and two banks of marks: seat 4, the host's, is in the first and seat 5, the cleaner's, in the second.
 // Whatever happens, every slip is given back before this returns.
 fn run(lines: &mut [Line]) -> Result<(), Refusal> {
-    let bit = BankBit::new(0)?;
+    let bit = BankBit::try_from(0)?;
     let banks = Pair::new(Full::new(), Full::new(), bit);
     let key = Wear { count: 0, block: 0 };
     let cell = Cell::new(key, None, false);

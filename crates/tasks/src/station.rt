@@ -6,12 +6,11 @@ ghost use Rattle.tasks.specs.Turns.{asked, Called};
 ghost use Rattle.marks.specs.Marks.{numbered};
 ghost use Rattle.tasks.specs.Stations.{state, call, Manned, Marked, Same, Watches, Plays, not_opened, Begun, Ran};
 
+use basis::bounded::{Place, Seat};
 use crate::turn::{Ask, Line, Marks, Seen, Task, Turn};
 use basis::answer::Answer;
 use basis::mask::Mask;
-use basis::place::Place;
 use basis::refusal::Refusal;
-use basis::seat::Seat;
 use keys::wear::Wear;
 use list::slip::Slip;
 use list_cells::cell::{Anchor, Cell};
@@ -55,7 +54,7 @@ fn mark_of<S: Scheme>(slip: &Slip, scheme: &S) -> Option<Place>
     requires { slip.now.seat < 16 }
     ensures { numbered result ≡ S.Scheme.table scheme.now slip.now.seat }
 {
-    match Seat::new(slip.seat()) {
+    match Seat::try_from(slip.seat()) {
         Ok(seat) => scheme.get(seat),
         Err(_) => unreachable(),
     }

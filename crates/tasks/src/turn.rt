@@ -1,7 +1,7 @@
 // Who does what, in the order in which the tasks get the processor, and what was seen of it.
 use basis::answer::Answer;
+use basis::bounded::Place;
 use basis::kind::Kind;
-use basis::place::Place;
 use keys::wear::Wear;
 use list_cells::cell::Cell;
 

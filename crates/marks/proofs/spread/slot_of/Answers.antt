@@ -6,5 +6,5 @@ use Rattle.marks.proofs.spread.slot_of.Goals as goal
 pub returns : goal.returns
 unfolding slot
 returns c =
-    let value = c.spread_entry.ensures ∙ ap (λ n. get_or entries (n % 16) 0) c.number.ensures in
+    let value = c.spread_entry.ensures ∙ ap (λ n. get_or entries (n % 16) 0) c.index.ensures in
     record { value = value; below = subst (λ (n : ℕ). n < 16) (sym value) (slot_below c.args.p.number) }

@@ -1,13 +1,9 @@
-use Rattle.marks.specs.Meaning.Order.{release}
-use Rattle.marks.proofs.VersionLaws.{version_means, version_sound, put_acted}
+use Rattle.std.proofs.Common.{rules}
+use Rattle.marks.proofs.VersionLaws.{release_means, release_acts, release_sound}
 use Rattle.marks.proofs.version.VersionScheme.release.Goals as goal
 
 pub invariant_of-self : goal.invariant_of-self
-invariant_of-self c =
-    let acted = put_acted c.args.self.now.kept _ _ _ c.clear.ensures.marks c.clear.ensures.counters in
-    record { sound = version_sound _ _ c.clear.ensures.sixteen c.args.self.now.sound (release c.args.t.number) c.args.t.ok acted }
+invariant_of-self c = search (rules, release_sound)
 
 pub returns : goal.returns
-returns c =
-    let acted = put_acted c.args.self.now.kept _ _ _ c.clear.ensures.marks c.clear.ensures.counters in
-    record { means = version_means _ _ c.clear.ensures.sixteen c.args.self.now.sound (release c.args.t.number) c.args.t.ok acted; acts = acted }
+returns c = search (rules, release_means, release_acts)

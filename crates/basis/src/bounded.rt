@@ -1,0 +1,51 @@
+// Numbers with a range: seats, places and bank bits.
+ghost use Rattle.std.specs.Prelude.{◌≡◌, ◌<◌, ◌≤◌, MatchResult};
+ghost use Rattle.basis.specs.Refusals.{refusal};
+
+use crate::refusal::Refusal;
+
+// A number below END. One with another END is of another type, so a seat is never taken for a place nor a place for a seat.
+#[derive(Clone, Copy, PartialEq, Eq, Debug)]
+pub struct Bounded<const END: u16> {
+    number: u16,
+    ghost ok: { number < END },
+}
+
+// A task's number, 0 to 15.
+pub type Seat = Bounded<16>;
+
+// A cell's number, 0 to 1,007.
+pub type Place = Bounded<1008>;
+
+// Which of the four bits of a seat's number is looked at, 0 to 3.
+pub type BankBit = Bounded<4>;
+
+// The number with its range, or the refusal of a number out of it.
+impl<const END: u16> TryFrom<u16> for Bounded<END> {
+    type Error = Refusal;
+
+    ghost try_from_gives = { λ n r. MatchResult r (λ (b : _). b.number ≡ n) (λ e. (END ≤ n) × ((refusal e).number ≡ 1)) };
+
+    fn try_from(number: u16) -> Result<Bounded<END>, Refusal> {
+        if number < END {
+            Ok(Bounded { number })
+        } else {
+            Err(Refusal::OutOfRange)
+        }
+    }
+}
+
+impl<const END: u16> Bounded<END> {
+    pub fn number(self) -> u16
+        ensures { result ≡ self.entry.number }
+    {
+        self.number
+    }
+
+    // The number, to index by.
+    pub fn index(self) -> usize
+        ensures { result ≡ self.entry.number }
+    {
+        usize::from(self.number)
+    }
+}
