@@ -1,8 +1,9 @@
 // Places: the numbers by which cells are known.
-ghost use Rattle.std.specs.Prelude.{◌≡◌, ◌<◌, ◌≤◌, MatchResult};
+ghost use Rattle.std.specs.Prelude.{◌≡◌, ◌<◌, ◌≤◌, Some, MatchResult, decimal};
 ghost use Rattle.basis.specs.Refusals.{refusal};
 
 use crate::refusal::Refusal;
+use std::fmt;
 
 // A cell's number, 0 to 1,007.
 #[derive(Clone, Copy, PartialEq, Eq, Debug)]
@@ -27,5 +28,14 @@ impl Place {
         ensures { result ≡ self.number }
     {
         self.number
+    }
+}
+
+impl fmt::Display for Place {
+    ghost output = { λ p. Some (decimal p.number) };
+
+    fn fmt<W: fmt::Write>(&self, f: &mut fmt::Formatter<W>) -> fmt::Result {
+        let number = self.number;
+        write!(f, "{number}")
     }
 }
