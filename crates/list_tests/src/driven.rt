@@ -126,14 +126,10 @@ fn check_schemes<K: Key>(
     rows: &mut [Row<K>],
     asks: &[Ask<K>],
 ) -> Result<(), Fail> {
-    let mut full = Full::new();
-    check_run(rt, cells, rows, &mut full, asks);
-    let mut owner = Owner::new();
-    check_run(rt, cells, rows, &mut owner, asks);
-    let mut version = Version::new(0);
-    check_run(rt, cells, rows, &mut version, asks);
-    let mut last = Version::new(4_294_967_295);
-    check_run(rt, cells, rows, &mut last, asks);
+    check_run(rt, cells, rows, &mut Full::new(), asks);
+    check_run(rt, cells, rows, &mut Owner::new(), asks);
+    check_run(rt, cells, rows, &mut Version::new(0), asks);
+    check_run(rt, cells, rows, &mut Version::new(4_294_967_295), asks);
     let inner = Pair::new(Full::new(), Owner::new(), BankBit::new(0)?);
     let mut nested = Pair::new(inner, Version::new(4_294_967_295), BankBit::new(3)?);
     check_run(rt, cells, rows, &mut nested, asks);

@@ -84,8 +84,6 @@ fn check_released<S: Scheme>(rt: &impl Abort, scheme: &mut S) -> Result<(), Fail
 
 #[test]
 fn marks_of_relaxed_schemes_are_released(rt: HostRuntime) -> Result<(), Fail> {
-    let mut owner = Owner::new();
-    check_released(&rt, &mut owner)?;
-    let mut version = Version::new(4_294_967_295);
-    check_released(&rt, &mut version)
+    check_released(&rt, &mut Owner::new())?;
+    check_released(&rt, &mut Version::new(4_294_967_295))
 }
