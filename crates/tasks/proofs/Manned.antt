@@ -21,7 +21,7 @@ use Rattle.list.proofs.Held.{stays_held}
 use Rattle.tasks.specs.declared.station.Station.{Station}
 use Rattle.tasks.specs.declared.turn.Ask.{Ask}
 use Rattle.tasks.specs.declared.turn.Ask.TheVariants.{Begin, Step, Abandon}
-use Rattle.tasks.specs.Turns.{asked, Called}
+use Rattle.tasks.specs.Turns.{asked}
 use Rattle.tasks.specs.Stations.{state, Manned}
 
 -- as many cells, as the definitions see them
@@ -58,10 +58,6 @@ manned_by d h k host cleaner held held' apart level = record {
 -- the same seat
 pub held_at : {K M : Type 0} {s : State K M} {t u : ℕ} → u ≡ t → Held s t → Held s u
 held_at {s = s} e h = subst (Held s) (sym e) h
-
--- the same call
-pub called_as : {M : Type 0} {table : M → Table} {strict : Bool} {acts : Order → M → M → Type 0} {s : State Wear M} {c c' : Call Wear} {a : Answer} {s' : State Wear M} → c ≡ c' → Called table strict acts s c a s' → Called table strict acts s c' a s'
-called_as {table = table} {strict = strict} {acts = acts} {s = s} {a = a} {s' = s'} e h = subst (λ c. Called table strict acts s c a s') e h
 
 -- a call that is no leave leaves both tasks there
 pub stays_manned : {M : Type 0} {table : M → Table} {strict : Bool} {acts : Order → M → M → Type 0} (d d' : Station M) (c : Call Wear) (a : Answer) → Did wear_below table strict acts (state d) c a (state d')
