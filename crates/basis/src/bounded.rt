@@ -1,8 +1,9 @@
 // Numbers with a range: seats, places and bank bits.
-ghost use Rattle.std.specs.Prelude.{◌≡◌, ◌<◌, ◌≤◌, MatchResult};
+ghost use Rattle.std.specs.Prelude.{◌≡◌, ◌<◌, ◌≤◌, Some, MatchResult, decimal};
 ghost use Rattle.basis.specs.Refusals.{refusal};
 
 use crate::refusal::Refusal;
+use std::fmt;
 
 // A number below END. One with another END is of another type, so a seat is never taken for a place nor a place for a seat.
 #[derive(Clone, Copy, PartialEq, Eq, Debug)]
@@ -47,5 +48,14 @@ impl<const END: u16> Bounded<END> {
         ensures { result ≡ self.entry.number }
     {
         usize::from(self.number)
+    }
+}
+
+impl<const END: u16> fmt::Display for Bounded<END> {
+    ghost output = { λ b. Some (decimal b.number) };
+
+    fn fmt<W: fmt::Write>(&self, f: &mut fmt::Formatter<W>) -> fmt::Result {
+        let number = self.number;
+        write!(f, "{number}")
     }
 }

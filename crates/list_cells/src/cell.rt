@@ -9,7 +9,7 @@ use basis::bounded::Place;
 use keys::key::Key;
 
 // A cell: a key, the link to the next cell or the end of its chain, and whether it is listed; else it is free.
-#[derive(Clone, Copy)]
+#[derive(Clone, Copy, PartialEq, Eq, Debug)]
 pub struct Cell<K> {
     pub key: K,
     pub link: Link,
@@ -27,7 +27,7 @@ impl<K: Key> Cell<K> {
 }
 
 // Where an index begins: how many cells it has, how many cells a window may meet, the first listed cell and the first free one.
-#[derive(Clone, Copy)]
+#[derive(Clone, Copy, PartialEq, Eq, Debug)]
 pub struct Anchor {
     pub count: u16,
     pub window: u8,

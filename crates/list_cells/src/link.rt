@@ -9,7 +9,7 @@ use basis::bounded::Place;
 const END: u16 = 1008;
 
 // A place or the end, in the two bytes of a number, so that a cell with a sector takes eight. One number alone stands for the end.
-#[derive(Clone, Copy)]
+#[derive(Clone, Copy, PartialEq, Eq, Debug)]
 pub struct Link {
     number: u16,
     ghost ok: { number ≤ 1008 },

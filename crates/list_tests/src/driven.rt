@@ -20,28 +20,17 @@ use marks::version::Version;
 use std::process::Abort;
 use std::test::Fail;
 
+// A call of a seat at mask level 0.
+fn ask<K: Key>(seat: u8, request: Request<K>) -> Ask<K> {
+    Ask {
+        seat,
+        level: 0,
+        request,
+    }
+}
+
 fn begins<K: Key>(seat: u8, kind: Kind, target: K) -> Ask<K> {
-    Ask {
-        seat,
-        level: 0,
-        request: Request::Begin { kind, target },
-    }
-}
-
-fn joins<K: Key>(seat: u8) -> Ask<K> {
-    Ask {
-        seat,
-        level: 0,
-        request: Request::Join,
-    }
-}
-
-fn steps<K: Key>(seat: u8) -> Ask<K> {
-    Ask {
-        seat,
-        level: 0,
-        request: Request::Step,
-    }
+    ask(seat, Request::Begin { kind, target })
 }
 
 // Seat 0 inserts keys a, b and d, the last in two steps. Seat 1 looks for d and waits; seat 0 removes b, on which seat 1's mark
@@ -49,26 +38,26 @@ fn steps<K: Key>(seat: u8) -> Ask<K> {
 // dropped but by the removal, so the answers are the same on relaxed schemes.
 fn schedule<K: Key>(a: K, b: K, c: K, d: K, e: K) -> [Ask<K>; 20] {
     [
-        joins(0),
+        ask(0, Request::Join),
         begins(0, Kind::Insert, a),
-        steps(0),
+        ask(0, Request::Step),
         begins(0, Kind::Insert, b),
-        steps(0),
+        ask(0, Request::Step),
         begins(0, Kind::Insert, d),
-        steps(0),
-        steps(0),
-        joins(1),
+        ask(0, Request::Step),
+        ask(0, Request::Step),
+        ask(1, Request::Join),
         begins(1, Kind::Lookup, d),
-        steps(1),
+        ask(1, Request::Step),
         begins(0, Kind::Remove, b),
-        steps(0),
+        ask(0, Request::Step),
         begins(0, Kind::Insert, c),
-        steps(0),
-        steps(1),
-        steps(1),
+        ask(0, Request::Step),
+        ask(1, Request::Step),
+        ask(1, Request::Step),
         begins(0, Kind::Insert, e),
-        steps(0),
-        steps(0),
+        ask(0, Request::Step),
+        ask(0, Request::Step),
     ]
 }
 
@@ -137,14 +126,10 @@ fn check_schemes<K: Key>(
     rows: &mut [Row<K>],
     asks: &[Ask<K>],
 ) -> Result<(), Fail> {
-    let mut full = Full::new();
-    check_run(rt, cells, rows, &mut full, asks);
-    let mut owner = Owner::new();
-    check_run(rt, cells, rows, &mut owner, asks);
-    let mut version = Version::new(0);
-    check_run(rt, cells, rows, &mut version, asks);
-    let mut last = Version::new(4_294_967_295);
-    check_run(rt, cells, rows, &mut last, asks);
+    check_run(rt, cells, rows, &mut Full::new(), asks);
+    check_run(rt, cells, rows, &mut Owner::new(), asks);
+    check_run(rt, cells, rows, &mut Version::new(0), asks);
+    check_run(rt, cells, rows, &mut Version::new(4_294_967_295), asks);
     let inner = Pair::new(Full::new(), Owner::new(), BankBit::try_from(0)?);
     let mut nested = Pair::new(inner, Version::new(4_294_967_295), BankBit::try_from(3)?);
     check_run(rt, cells, rows, &mut nested, asks);
@@ -194,9 +179,9 @@ fn a_relaxed_walker_begins_again(rt: HostRuntime) {
     // After the three inserts both seats look for 40; the last step of seat 0 finds no mark.
     asks[9] = begins(1, Kind::Lookup, target);
     asks[10] = begins(0, Kind::Lookup, target);
-    asks[11] = steps(0);
-    asks[12] = steps(1);
-    asks[13] = steps(0);
+    asks[11] = ask(0, Request::Step);
+    asks[12] = ask(1, Request::Step);
+    asks[13] = ask(0, Request::Step);
     let mut answers = [Answer::Ok; 14];
     let mut cells = [cell(7, None, true); 3];
     let mut anchor = no_anchor();

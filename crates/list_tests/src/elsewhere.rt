@@ -10,49 +10,43 @@ use marks::scheme::Scheme;
 use std::process::Abort;
 use std::test::Fail;
 
-// One window of an operation of seat 0.
-fn check_step(rt: &impl Abort, lent: &mut Lent, kind: Kind, target: u32, answer: Answer) {
-    assert_eq!(rt; lent.call(0, begin_of(kind, target)), Answer::Ok);
-    assert_eq!(rt; lent.call(0, Request::Step), answer);
-}
+const KINDS: [Kind; 3] = [Kind::Lookup, Kind::Insert, Kind::Remove];
 
 // A window of seat 0 is refused with 8 and alters nothing.
 fn check_bad(rt: &impl Abort, lent: &mut Lent, kind: Kind, target: u32) {
     assert_eq!(rt; lent.call(0, begin_of(kind, target)), Answer::Ok);
-    let before = lent.picture();
-    assert_eq!(rt;
-        lent.call(0, Request::Step),
-        Answer::Refused(Refusal::BadLink)
-    );
-    assert_eq!(rt; lent.picture(), before);
+    lent.check_refused(rt, 0, Request::Step, Refusal::BadLink);
 }
 
-// The same for each kind of operation, on an index with that head.
-fn check_bad_head(rt: &impl Abort, head: u16, target: u32) {
-    for kind in [Kind::Lookup, Kind::Insert, Kind::Remove] {
+// The same for each kind of operation, on an index that was spoiled first.
+fn check_each_bad<F: Fn(&mut Lent)>(rt: &impl Abort, target: u32, spoil: F)
+    requires { F.IsAlwaysCallable spoil }
+{
+    for kind in KINDS {
         let mut lent = Lent::listed();
-        lent.anchor.head = link_to(Some(head));
+        spoil(&mut lent);
         check_bad(rt, &mut lent, kind, target);
     }
+}
+
+// With that head.
+fn check_bad_head(rt: &impl Abort, head: u16, target: u32) {
+    check_each_bad(rt, target, |lent| lent.anchor.head = link_to(head));
 }
 
 // With seat 0's mark on that place.
 fn check_bad_mark(rt: &impl Abort, mark: u16, target: u32) -> Result<(), Fail> {
-    for kind in [Kind::Lookup, Kind::Insert, Kind::Remove] {
-        let mut lent = Lent::listed();
-        lent.scheme.reserve(Seat::try_from(0)?, Place::try_from(mark)?);
-        check_bad(rt, &mut lent, kind, target);
-    }
+    let seat = Seat::try_from(0)?;
+    let place = Place::try_from(mark)?;
+    check_each_bad(rt, target, |lent| lent.scheme.reserve(seat, place));
     Ok(())
 }
 
 // With another link in the first listed cell.
 fn check_bad_link(rt: &impl Abort, link: u16, target: u32) {
-    for kind in [Kind::Lookup, Kind::Insert, Kind::Remove] {
-        let mut lent = Lent::listed();
+    check_each_bad(rt, target, |lent| {
         lent.cells[0] = cell(10, Some(link), true);
-        check_bad(rt, &mut lent, kind, target);
-    }
+    });
 }
 
 #[test]
@@ -92,7 +86,7 @@ fn a_bad_link_behind_the_mark_is_refused(rt: HostRuntime) -> Result<(), Fail> {
 fn a_bad_free_link_is_refused(rt: HostRuntime) {
     for free in [3, 1007, 0, 1] {
         let mut lent = Lent::listed();
-        lent.anchor.free = link_to(Some(free));
+        lent.anchor.free = link_to(free);
         check_bad(&rt, &mut lent, Kind::Insert, 15);
     }
 }
@@ -101,16 +95,20 @@ fn a_bad_free_link_is_refused(rt: HostRuntime) {
 #[test]
 fn a_bad_free_link_is_not_used_otherwise(rt: HostRuntime) {
     let mut lent = Lent::listed();
-    lent.anchor.free = link_to(Some(3));
-    check_step(&rt, &mut lent, Kind::Insert, 20, Answer::No);
-    check_step(&rt, &mut lent, Kind::Lookup, 15, Answer::No);
-    check_step(&rt, &mut lent, Kind::Remove, 15, Answer::No);
-    check_step(&rt, &mut lent, Kind::Remove, 20, Answer::Yes);
+    lent.anchor.free = link_to(3);
+    lent.check_steps(&rt, 0, Kind::Insert, 20, &[Answer::No]);
+    lent.check_steps(&rt, 0, Kind::Lookup, 15, &[Answer::No]);
+    lent.check_steps(&rt, 0, Kind::Remove, 15, &[Answer::No]);
+    lent.check_steps(&rt, 0, Kind::Remove, 20, &[Answer::Yes]);
     let after = lent.picture();
-    assert_eq!(rt; after.free, Some(1));
+    assert_eq!(rt; after.anchor.free, link_to(1));
     assert_eq!(rt;
         after.cells,
-        [(10, None, true), (20, Some(3), false), (77, None, false)]
+        [
+            cell(10, None, true),
+            cell(20, Some(3), false),
+            cell(77, None, false)
+        ]
     );
 }
 
@@ -120,19 +118,19 @@ fn a_link_that_is_copied_is_not_used(rt: HostRuntime) {
     let mut lent = Lent::listed();
     lent.cells[1] = cell(20, Some(900), true);
     lent.cells[2] = cell(77, Some(901), false);
-    check_step(&rt, &mut lent, Kind::Lookup, 15, Answer::No);
-    check_step(&rt, &mut lent, Kind::Lookup, 20, Answer::Yes);
-    check_step(&rt, &mut lent, Kind::Insert, 15, Answer::Yes);
-    assert_eq!(rt; lent.picture().free, Some(901));
-    check_step(&rt, &mut lent, Kind::Remove, 20, Answer::Yes);
+    lent.check_steps(&rt, 0, Kind::Lookup, 15, &[Answer::No]);
+    lent.check_steps(&rt, 0, Kind::Lookup, 20, &[Answer::Yes]);
+    lent.check_steps(&rt, 0, Kind::Insert, 15, &[Answer::Yes]);
+    assert_eq!(rt; lent.anchor.free, link_to(901));
+    lent.check_steps(&rt, 0, Kind::Remove, 20, &[Answer::Yes]);
     let after = lent.picture();
-    assert_eq!(rt; after.free, Some(1));
+    assert_eq!(rt; after.anchor.free, link_to(1));
     assert_eq!(rt;
         after.cells,
         [
-            (10, Some(2), true),
-            (20, Some(901), false),
-            (15, Some(900), true),
+            cell(10, Some(2), true),
+            cell(20, Some(901), false),
+            cell(15, Some(900), true),
         ]
     );
 }
@@ -144,9 +142,9 @@ fn the_end_is_never_used(rt: HostRuntime) {
     lent.anchor.head = None;
     lent.anchor.free = None;
     let before = lent.picture();
-    check_step(&rt, &mut lent, Kind::Lookup, 10, Answer::No);
-    check_step(&rt, &mut lent, Kind::Remove, 10, Answer::No);
-    check_step(&rt, &mut lent, Kind::Insert, 10, Answer::Full);
+    lent.check_steps(&rt, 0, Kind::Lookup, 10, &[Answer::No]);
+    lent.check_steps(&rt, 0, Kind::Remove, 10, &[Answer::No]);
+    lent.check_steps(&rt, 0, Kind::Insert, 10, &[Answer::Full]);
     assert_eq!(rt; lent.picture(), before);
 }
 
@@ -155,11 +153,11 @@ fn the_end_is_never_used(rt: HostRuntime) {
 fn a_cell_linked_to_itself_is_removed_from_the_head(rt: HostRuntime) {
     let mut lent = Lent::listed();
     lent.cells[0] = cell(10, Some(0), true);
-    check_step(&rt, &mut lent, Kind::Remove, 10, Answer::Yes);
+    lent.check_steps(&rt, 0, Kind::Remove, 10, &[Answer::Yes]);
     let after = lent.picture();
-    assert_eq!(rt; after.head, Some(0));
-    assert_eq!(rt; after.free, Some(0));
-    assert_eq!(rt; after.cells[0], (10, Some(2), false));
+    assert_eq!(rt; after.anchor.head, link_to(0));
+    assert_eq!(rt; after.anchor.free, link_to(0));
+    assert_eq!(rt; after.cells[0], cell(10, Some(2), false));
 }
 
 // The same with a mark on it, so that the leading cell is the cell itself: the last write to its link stands.
@@ -169,11 +167,11 @@ fn a_cell_linked_to_itself_is_removed_from_its_mark(rt: HostRuntime) -> Result<(
     lent.cells[0] = cell(10, Some(0), true);
     lent.scheme.reserve(Seat::try_from(0)?, Place::try_from(0)?);
     lent.scheme.reserve(Seat::try_from(9)?, Place::try_from(0)?);
-    check_step(&rt, &mut lent, Kind::Remove, 10, Answer::Yes);
+    lent.check_steps(&rt, 0, Kind::Remove, 10, &[Answer::Yes]);
     let after = lent.picture();
-    assert_eq!(rt; after.head, Some(0));
-    assert_eq!(rt; after.free, Some(0));
-    assert_eq!(rt; after.cells[0], (10, Some(2), false));
+    assert_eq!(rt; after.anchor.head, link_to(0));
+    assert_eq!(rt; after.anchor.free, link_to(0));
+    assert_eq!(rt; after.cells[0], cell(10, Some(2), false));
     assert_eq!(rt; after.marks, [None; 16]);
     Ok(())
 }
@@ -183,8 +181,8 @@ fn a_cell_linked_to_itself_is_removed_from_its_mark(rt: HostRuntime) -> Result<(
 fn a_ring_of_links_waits(rt: HostRuntime) {
     let mut lent = Lent::listed();
     lent.cells[1] = cell(20, Some(0), true);
-    check_step(&rt, &mut lent, Kind::Lookup, 30, Answer::Wait);
-    assert_eq!(rt; lent.picture().marks[0], Some(1));
+    lent.check_steps(&rt, 0, Kind::Lookup, 30, &[Answer::Wait]);
+    assert_eq!(rt; lent.picture().marks[0], link_to(1));
     assert_eq!(rt; lent.call(0, Request::Step), Answer::Wait);
-    assert_eq!(rt; lent.picture().marks[0], Some(1));
+    assert_eq!(rt; lent.picture().marks[0], link_to(1));
 }

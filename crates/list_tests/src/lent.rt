@@ -3,6 +3,7 @@ use basis::answer::Answer;
 use basis::bounded::{Place, Seat};
 use basis::kind::Kind;
 use basis::mask::Mask;
+use basis::refusal::Refusal;
 use keys::sector::Sector;
 use list::calls::{abandon, begin, join, leave, step};
 use list_cells::cell::{Anchor, Cell};
@@ -11,6 +12,8 @@ use list_window::row::{Doing, Row};
 use list_window::turn::Request;
 use marks::full::Full;
 use marks::scheme::Scheme;
+use std::array;
+use std::process::Abort;
 
 // Three cells, sixteen rows, an anchor, the full scheme and a mask.
 #[derive(Drop)]
@@ -22,44 +25,24 @@ pub struct Lent {
     pub mask: Mask,
 }
 
-// A row, for comparison.
-#[derive(Clone, Copy, PartialEq, Eq, Debug)]
-pub enum Shown {
-    Away,
-    Idle,
-    Running(Kind, u32),
-}
-
-// All that is lent, for comparison: cells as key, link and flag, and the marks.
+// All that is lent, for comparison; of the scheme, the mark of each seat.
 #[derive(Clone, Copy, PartialEq, Eq, Debug)]
 pub struct Picture {
-    pub cells: [(u32, Option<u16>, bool); 3],
-    pub rows: [Shown; 16],
-    pub count: u16,
-    pub window: u8,
-    pub head: Option<u16>,
-    pub free: Option<u16>,
-    pub marks: [Option<u16>; 16],
-    pub level: u8,
+    pub cells: [Cell<Sector>; 3],
+    pub rows: [Row<Sector>; 16],
+    pub anchor: Anchor,
+    pub marks: [Option<Place>; 16],
+    pub mask: Mask,
 }
 
-// The link to that place; none stands for the end.
-pub(crate) fn link_to(number: Option<u16>) -> Option<Place> {
-    match number {
-        Some(n) => Place::try_from(n).ok(),
-        None => None,
-    }
+// The link to the place of that number.
+pub(crate) fn link_to(number: u16) -> Option<Place> {
+    Place::try_from(number).ok()
 }
 
-pub(crate) fn number_of(link: Option<Place>) -> Option<u16> {
-    match link {
-        Some(place) => Some(place.number()),
-        None => None,
-    }
-}
-
+// A cell with that key and flag, and a link to that place; none stands for the end.
 pub(crate) fn cell(number: u32, link: Option<u16>, listed: bool) -> Cell<Sector> {
-    Cell::new(Sector { number }, link_to(link), listed)
+    Cell::new(Sector { number }, link.and_then(link_to), listed)
 }
 
 pub(crate) fn away() -> [Row<Sector>; 16] {
@@ -71,18 +54,6 @@ pub(crate) fn begin_of(kind: Kind, number: u32) -> Request<Sector> {
         kind,
         target: Sector { number },
     }
-}
-
-fn show_row(row: Row<Sector>) -> Shown {
-    match row.doing {
-        Doing::Away => Shown::Away,
-        Doing::Idle => Shown::Idle,
-        Doing::Running { kind, target } => Shown::Running(kind, target.number),
-    }
-}
-
-fn show_cell(cell: Cell<Sector>) -> (u32, Option<u16>, bool) {
-    (cell.key.number, number_of(cell.link.place()), cell.listed)
 }
 
 impl Lent {
@@ -100,8 +71,8 @@ impl Lent {
             anchor: Anchor {
                 count: 3,
                 window: 4,
-                head: link_to(Some(0)),
-                free: link_to(Some(2)),
+                head: link_to(0),
+                free: link_to(2),
             },
             scheme: Full::new(),
             mask: Mask { level: 5 },
@@ -136,34 +107,46 @@ impl Lent {
         }
     }
 
-    fn mark_of(&self, number: u8) -> Option<u16> {
-        match Seat::try_from(number) {
-            Ok(seat) => number_of(self.scheme.get(seat)),
-            Err(_) => None,
+    pub(crate) fn picture(&self) -> Picture {
+        let scheme = &self.scheme;
+        let marks = array::from_fn(|number| {
+            let seat = Seat::try_from(number as u8).ok();
+            seat.and_then(|seat| scheme.get(seat))
+        });
+        Picture {
+            cells: self.cells,
+            rows: self.rows,
+            anchor: self.anchor,
+            marks,
+            mask: self.mask,
         }
     }
 
-    pub(crate) fn picture(&self) -> Picture {
-        let mut rows = [Shown::Away; 16];
-        let mut marks = [None; 16];
-        for seat in 0..16u8 {
-            let at = seat as usize;
-            rows[at] = show_row(self.rows[at]);
-            marks[at] = self.mark_of(seat);
+    // An operation of a seat begins, and its steps give these answers.
+    pub(crate) fn check_steps(
+        &mut self,
+        rt: &impl Abort,
+        seat: u8,
+        kind: Kind,
+        target: u32,
+        answers: &[Answer],
+    ) {
+        assert_eq!(rt; self.call(seat, begin_of(kind, target)), Answer::Ok);
+        for answer in answers {
+            assert_eq!(rt; self.call(seat, Request::Step), *answer);
         }
-        Picture {
-            cells: [
-                show_cell(self.cells[0]),
-                show_cell(self.cells[1]),
-                show_cell(self.cells[2]),
-            ],
-            rows,
-            count: self.anchor.count,
-            window: self.anchor.window,
-            head: number_of(self.anchor.head),
-            free: number_of(self.anchor.free),
-            marks,
-            level: self.mask.level,
-        }
+    }
+
+    // A call that is refused and alters nothing, the mask level included.
+    pub(crate) fn check_refused(
+        &mut self,
+        rt: &impl Abort,
+        seat: u8,
+        request: Request<Sector>,
+        refusal: Refusal,
+    ) {
+        let before = self.picture();
+        assert_eq!(rt; self.call(seat, request), Answer::Refused(refusal));
+        assert_eq!(rt; self.picture(), before);
     }
 }

@@ -1,9 +1,10 @@
 // What making leaves of cells, rows, anchor and marks that were used before.
-use crate::lent::{Lent, Shown, begin_of, cell, link_to};
+use crate::lent::{Lent, away, begin_of, cell, link_to};
 use basis::answer::Answer;
 use basis::bounded::{Place, Seat};
 use basis::kind::Kind;
 use basis::refusal::Refusal;
+use list_cells::cell::Anchor;
 use list_making::making::make;
 use list_window::turn::Request;
 use marks::owner::Owner;
@@ -16,7 +17,7 @@ use std::test::Fail;
 fn used(rt: &impl Abort) -> Result<Lent, Fail> {
     let mut lent = Lent::listed();
     lent.cells[1] = cell(20, Some(900), true);
-    lent.anchor.free = link_to(Some(900));
+    lent.anchor.free = link_to(900);
     assert_eq!(rt; lent.call(0, begin_of(Kind::Insert, 15)), Answer::Ok);
     for seat in 0..16u8 {
         lent.scheme.reserve(Seat::try_from(seat)?, Place::try_from(2)?);
@@ -32,14 +33,21 @@ fn keys_stay_and_all_else_is_new(rt: HostRuntime) -> Result<(), Fail> {
     assert_eq!(rt;
         after.cells,
         [
-            (10, Some(1), false),
-            (20, Some(2), false),
-            (77, None, false),
+            cell(10, Some(1), false),
+            cell(20, Some(2), false),
+            cell(77, None, false),
         ]
     );
-    assert_eq!(rt; after.rows, [Shown::Away; 16]);
-    assert_eq!(rt; (after.count, after.window), (3, 2));
-    assert_eq!(rt; (after.head, after.free), (None, Some(0)));
+    assert_eq!(rt; after.rows, away());
+    assert_eq!(rt;
+        after.anchor,
+        Anchor {
+            count: 3,
+            window: 2,
+            head: None,
+            free: link_to(0),
+        }
+    );
     assert_eq!(rt; after.marks, [None; 16]);
     Ok(())
 }
@@ -75,8 +83,6 @@ fn check_released<S: Scheme>(rt: &impl Abort, scheme: &mut S) -> Result<(), Fail
 
 #[test]
 fn marks_of_relaxed_schemes_are_released(rt: HostRuntime) -> Result<(), Fail> {
-    let mut owner = Owner::new();
-    check_released(&rt, &mut owner)?;
-    let mut version = Version::new(4_294_967_295);
-    check_released(&rt, &mut version)
+    check_released(&rt, &mut Owner::new())?;
+    check_released(&rt, &mut Version::new(4_294_967_295))
 }

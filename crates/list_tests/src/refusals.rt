@@ -5,20 +5,6 @@ use basis::kind::Kind;
 use basis::refusal::Refusal;
 use keys::sector::Sector;
 use list_window::turn::Request;
-use std::process::Abort;
-
-// A call that is refused and alters nothing, the mask level included.
-fn check_refused(
-    rt: &impl Abort,
-    lent: &mut Lent,
-    seat: u8,
-    request: Request<Sector>,
-    refusal: Refusal,
-) {
-    let before = lent.picture();
-    assert_eq!(rt; lent.call(seat, request), Answer::Refused(refusal));
-    assert_eq!(rt; lent.picture(), before);
-}
 
 fn requests() -> [Request<Sector>; 5] {
     [
@@ -36,8 +22,8 @@ fn seat_16_comes_before_anything_else(rt: HostRuntime) {
     lent.mask.level = 7;
     lent.anchor.count = 4;
     for request in requests() {
-        check_refused(&rt, &mut lent, 16, request, Refusal::OutOfRange);
-        check_refused(&rt, &mut lent, 255, request, Refusal::OutOfRange);
+        lent.check_refused(&rt, 16, request, Refusal::OutOfRange);
+        lent.check_refused(&rt, 255, request, Refusal::OutOfRange);
     }
 }
 
@@ -47,7 +33,7 @@ fn sizes_come_before_the_mask(rt: HostRuntime) {
     lent.mask.level = 7;
     lent.anchor.count = 4;
     for request in requests() {
-        check_refused(&rt, &mut lent, 15, request, Refusal::WrongSizes);
+        lent.check_refused(&rt, 15, request, Refusal::WrongSizes);
     }
 }
 
@@ -58,8 +44,8 @@ fn the_mask_comes_before_the_row(rt: HostRuntime) {
     for level in [7, 8, 255] {
         lent.mask.level = level;
         for request in requests() {
-            check_refused(&rt, &mut lent, 0, request, Refusal::MaskRaised);
-            check_refused(&rt, &mut lent, 1, request, Refusal::MaskRaised);
+            lent.check_refused(&rt, 0, request, Refusal::MaskRaised);
+            lent.check_refused(&rt, 1, request, Refusal::MaskRaised);
         }
     }
 }
@@ -73,7 +59,7 @@ fn level_6_is_taken_and_put_back(rt: HostRuntime) {
     assert_eq!(rt; lent.call(15, begin_of(Kind::Lookup, 20)), Answer::Ok);
     assert_eq!(rt; lent.call(15, Request::Step), Answer::Yes);
     assert_eq!(rt; lent.mask.level, 6);
-    check_refused(&rt, &mut lent, 15, Request::Step, Refusal::NotRunning);
+    lent.check_refused(&rt, 15, Request::Step, Refusal::NotRunning);
     assert_eq!(rt; lent.call(15, Request::Leave), Answer::Ok);
     assert_eq!(rt; lent.mask.level, 6);
 }
@@ -81,19 +67,23 @@ fn level_6_is_taken_and_put_back(rt: HostRuntime) {
 #[test]
 fn an_away_row_only_joins(rt: HostRuntime) {
     let mut lent = Lent::listed();
-    check_refused(&rt, &mut lent, 1, Request::Leave, Refusal::Away);
-    check_refused(&rt, &mut lent, 1, begin_of(Kind::Remove, 10), Refusal::Away);
-    check_refused(&rt, &mut lent, 1, Request::Step, Refusal::Away);
-    check_refused(&rt, &mut lent, 1, Request::Abandon, Refusal::Away);
+    for request in [
+        Request::Leave,
+        begin_of(Kind::Remove, 10),
+        Request::Step,
+        Request::Abandon,
+    ] {
+        lent.check_refused(&rt, 1, request, Refusal::Away);
+    }
     assert_eq!(rt; lent.call(1, Request::Join), Answer::Ok);
 }
 
 #[test]
 fn an_idle_row_neither_joins_nor_steps(rt: HostRuntime) {
     let mut lent = Lent::listed();
-    check_refused(&rt, &mut lent, 0, Request::Join, Refusal::NotAway);
-    check_refused(&rt, &mut lent, 0, Request::Step, Refusal::NotRunning);
-    check_refused(&rt, &mut lent, 0, Request::Abandon, Refusal::NotRunning);
+    lent.check_refused(&rt, 0, Request::Join, Refusal::NotAway);
+    lent.check_refused(&rt, 0, Request::Step, Refusal::NotRunning);
+    lent.check_refused(&rt, 0, Request::Abandon, Refusal::NotRunning);
     assert_eq!(rt; lent.call(0, Request::Leave), Answer::Ok);
 }
 
@@ -101,16 +91,10 @@ fn an_idle_row_neither_joins_nor_steps(rt: HostRuntime) {
 fn a_running_row_neither_joins_nor_begins(rt: HostRuntime) {
     let mut lent = Lent::listed();
     assert_eq!(rt; lent.call(0, begin_of(Kind::Remove, 10)), Answer::Ok);
-    check_refused(&rt, &mut lent, 0, Request::Join, Refusal::NotAway);
-    check_refused(
-        &rt,
-        &mut lent,
-        0,
-        begin_of(Kind::Lookup, 20),
-        Refusal::AlreadyRunning,
-    );
+    lent.check_refused(&rt, 0, Request::Join, Refusal::NotAway);
+    lent.check_refused(&rt, 0, begin_of(Kind::Lookup, 20), Refusal::AlreadyRunning);
     assert_eq!(rt; lent.call(0, Request::Abandon), Answer::Ok);
-    check_refused(&rt, &mut lent, 0, Request::Step, Refusal::NotRunning);
+    lent.check_refused(&rt, 0, Request::Step, Refusal::NotRunning);
     assert_eq!(rt; lent.call(0, begin_of(Kind::Remove, 10)), Answer::Ok);
     assert_eq!(rt; lent.call(0, Request::Leave), Answer::Ok);
 }

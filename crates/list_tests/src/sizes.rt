@@ -19,7 +19,7 @@ fn anchor_of(count: u16, window: u8) -> Anchor {
         count,
         window,
         head: None,
-        free: link_to(Some(0)),
+        free: link_to(0),
     }
 }
 

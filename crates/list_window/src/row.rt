@@ -2,7 +2,7 @@
 use basis::kind::Kind;
 
 // A seat is away, seated with nothing to do, or in the middle of an operation on a target.
-#[derive(Clone, Copy)]
+#[derive(Clone, Copy, PartialEq, Eq, Debug)]
 pub enum Doing<K> {
     Away,
     Idle,
@@ -10,7 +10,7 @@ pub enum Doing<K> {
 }
 
 // The row of a seat.
-#[derive(Clone, Copy)]
+#[derive(Clone, Copy, PartialEq, Eq, Debug)]
 pub struct Row<K> {
     pub doing: Doing<K>,
 }

@@ -1,5 +1,7 @@
 -- The seats of both tasks stay held, from call to call. Assumes nothing.
-use Rattle.std.proofs.Common.{◌≡◌, ℕ, Bool, ◌≢◌, List, map, length, sym, ap, ◌∙◌, subst, inl}
+use Rattle.std.specs.Prelude.{Result, IsOk}
+use Rattle.std.specs.declared.result.Result.TheVariants as result
+use Rattle.std.proofs.Common.{◌≡◌, ℕ, Bool, ◌≢◌, List, map, length, sym, refl, ap, ◌∙◌, subst, inl}
 use Rattle.std.proofs.lemmas.List.{length-map}
 use Rattle.basis.specs.declared.refusal.Refusal.{Refusal}
 use Rattle.basis.specs.declared.answer.Answer.TheVariants.{Ok, Refused}
@@ -13,12 +15,13 @@ use Rattle.list_law.proofs.Lists.{clash}
 use Rattle.list_cells.specs.declared.cell.Cell as declared
 use Rattle.list_cells.specs.Views.{cell_of}
 use Rattle.list.specs.declared.slip.Slip.{Slip}
-use Rattle.list.specs.Slips.{Held}
+use Rattle.list.specs.declared.slip.Kept.{Kept}
+use Rattle.list.specs.Slips.{left, Held}
 use Rattle.list.proofs.Held.{stays_held}
 use Rattle.tasks.specs.declared.station.Station.{Station}
 use Rattle.tasks.specs.declared.turn.Ask.{Ask}
 use Rattle.tasks.specs.declared.turn.Ask.TheVariants.{Begin, Step, Abandon}
-use Rattle.tasks.specs.Turns.{asked, Called}
+use Rattle.tasks.specs.Turns.{asked}
 use Rattle.tasks.specs.Stations.{state, Manned}
 
 -- as many cells, as the definitions see them
@@ -28,6 +31,11 @@ as_long cells cells' e = length-map cells' cell_of ∙ e ∙ sym (length-map cel
 -- a refusal is not an ok
 pub refused_apart : {q : Refusal} → Refused q ≡ Ok → ⊥
 refused_apart h = clash (cc)
+
+-- a leave whose answer is ok gave its slip back
+pub ok_left : {X : Type 0} (r : Result X Kept) → left r ≡ Ok → IsOk r
+ok_left (result.Ok x) h = refl
+ok_left (result.Err kept) h = absurd (refused_apart h)
 
 -- no join and no ask is a leave
 pub join_apart : {K : Type 0} → ◌≢◌ {A = What K} join leave
@@ -50,10 +58,6 @@ manned_by d h k host cleaner held held' apart level = record {
 -- the same seat
 pub held_at : {K M : Type 0} {s : State K M} {t u : ℕ} → u ≡ t → Held s t → Held s u
 held_at {s = s} e h = subst (Held s) (sym e) h
-
--- the same call
-pub called_as : {M : Type 0} {table : M → Table} {strict : Bool} {acts : Order → M → M → Type 0} {s : State Wear M} {c c' : Call Wear} {a : Answer} {s' : State Wear M} → c ≡ c' → Called table strict acts s c a s' → Called table strict acts s c' a s'
-called_as {table = table} {strict = strict} {acts = acts} {s = s} {a = a} {s' = s'} e h = subst (λ c. Called table strict acts s c a s') e h
 
 -- a call that is no leave leaves both tasks there
 pub stays_manned : {M : Type 0} {table : M → Table} {strict : Bool} {acts : Order → M → M → Type 0} (d d' : Station M) (c : Call Wear) (a : Answer) → Did wear_below table strict acts (state d) c a (state d')

@@ -1,5 +1,5 @@
 -- What a task asks, and what a call by a task does. Assumes nothing.
-use Rattle.std.specs.Prelude.{Bool, None, Option}
+use Rattle.std.specs.Prelude.{Bool, ℕ, List, None, Option, codes}
 use Rattle.basis.specs.declared.bounded.Bounded.{Bounded}
 use Rattle.basis.specs.declared.answer.Answer.{Answer}
 use Rattle.keys.specs.declared.wear.Wear.{Wear}
@@ -34,3 +34,13 @@ untaken t a = record { turn = record { task = t; ask = a }; seen = None }
 abbrev pub mark_by : Marks → Task → Option (Bounded 1008)
 mark_by m Host = m.host
 mark_by m Cleaner = m.cleaner
+
+-- the task that is not this one
+abbrev pub other_task : Task → Task
+other_task Host = Cleaner
+other_task Cleaner = Host
+
+-- the word of a task, in ASCII
+abbrev pub task_word : Task → List ℕ
+task_word Host = codes "host"
+task_word Cleaner = codes "cleaner"

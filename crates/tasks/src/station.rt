@@ -6,9 +6,9 @@ ghost use Rattle.tasks.specs.Turns.{asked, Called};
 ghost use Rattle.marks.specs.Marks.{numbered};
 ghost use Rattle.tasks.specs.Stations.{state, call, Manned, Marked, Same, Watches, Plays, not_opened, Begun, Ran};
 
-use basis::bounded::{Place, Seat};
 use crate::turn::{Ask, Line, Marks, Seen, Task, Turn};
 use basis::answer::Answer;
+use basis::bounded::{Place, Seat};
 use basis::mask::Mask;
 use basis::refusal::Refusal;
 use keys::wear::Wear;
@@ -54,10 +54,8 @@ fn mark_of<S: Scheme>(slip: &Slip, scheme: &S) -> Option<Place>
     requires { slip.now.seat < 16 }
     ensures { numbered result ≡ S.Scheme.table scheme.now slip.now.seat }
 {
-    match Seat::try_from(slip.seat()) {
-        Ok(seat) => scheme.get(seat),
-        Err(_) => unreachable(),
-    }
+    let seat = Seat::try_from(slip.seat()).unwrap();
+    scheme.get(seat)
 }
 
 impl<S: Scheme + Drop> Station<S> {
@@ -116,16 +114,11 @@ impl<S: Scheme + Drop> Station<S> {
                 host,
                 cleaner,
             }),
-            Err(refusal) => match host.leave(
-                &mut cells,
-                &mut rows,
-                &mut anchor,
-                &mut scheme,
-                &mut mask,
-            ) {
-                Ok(()) => Err(refusal),
-                Err(_) => unreachable(),
-            },
+            Err(refusal) => {
+                host.leave(&mut cells, &mut rows, &mut anchor, &mut scheme, &mut mask)
+                    .unwrap();
+                Err(refusal)
+            }
         }
     }
 
@@ -204,11 +197,8 @@ impl<S: Scheme + Drop> Station<S> {
         ensures manned { Manned self.new }
         ensures same { Same self.old self.new }
     {
-        for at in 0..lines.len() {
-            let line = lines[at];
-            let turn = line.turn;
-            let seen = Some(self.watch(turn));
-            lines[at] = Line { turn, seen };
+        for line in lines.iter_mut() {
+            line.seen = Some(self.watch(line.turn));
         }
     }
 
@@ -225,14 +215,11 @@ impl<S: Scheme + Drop> Station<S> {
             host,
             cleaner,
         } = self;
-        match cleaner.leave(&mut cells, &mut rows, &mut anchor, &mut scheme, &mut mask) {
-            Ok(()) => {}
-            Err(_) => unreachable(),
-        }
-        match host.leave(&mut cells, &mut rows, &mut anchor, &mut scheme, &mut mask) {
-            Ok(()) => {}
-            Err(_) => unreachable(),
-        }
+        cleaner
+            .leave(&mut cells, &mut rows, &mut anchor, &mut scheme, &mut mask)
+            .unwrap();
+        host.leave(&mut cells, &mut rows, &mut anchor, &mut scheme, &mut mask)
+            .unwrap();
     }
 }
 

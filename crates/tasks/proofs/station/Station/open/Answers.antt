@@ -12,15 +12,15 @@ use Rattle.tasks.specs.Stations.{not_opened}
 use Rattle.list.proofs.Held.{stays_held, joined_held, leave_accepted}
 use Rattle.tasks.proofs.Begun.{accepted, joins}
 use Rattle.tasks.proofs.Refused.{made_ok, sizes_right, all_away, other_row, refused_away, refused_second, host_refused}
-use Rattle.tasks.proofs.Manned.{as_long, refused_apart, join_apart, manned_by, held_at}
+use Rattle.tasks.proofs.Manned.{as_long, ok_left, join_apart, manned_by, held_at}
 use Rattle.tasks.proofs.station.Station.open.Goals as goal
 
-pub unreachable-requires : goal.unreachable-requires
-unreachable-requires g c =
+pub unwrap-requires : goal.unwrap-requires
+unwrap-requires g c =
     let first = joined_held _ _ _ _ _ _ _ _ c.in_ok-host.ensures.did (as_long _ _ c.join.auto.cells) refl refl in
     let held = stays_held _ _ _ _ _ _ _ _ c.in-Err.ensures.did (as_long _ _ c.join-2.auto.cells) _ (inl join_apart) first.held in
     let level = c.in-Err.ensures.level ∙ c.in_ok-host.ensures.level in
-    refused_apart (leave_accepted _ _ _ _ _ _ _ _ c.in-Err-leave.ensures.did (as_long _ _ c.leave.auto.cells) refl (ap (λ l. ltb l 7) level) (held_at c.in_ok-host.ensures.seat held))
+    ok_left _ (leave_accepted _ _ _ _ _ _ _ _ c.leave.ensures.did (as_long _ _ c.leave.auto.cells) refl (ap (λ l. ltb l 7) level) (held_at c.in_ok-host.ensures.seat held))
 
 pub returns-in-Ok : goal.returns-in-Ok
 returns-in-Ok g c =
@@ -55,8 +55,8 @@ returns-in_err-host g c =
     let refusal : not_opened (length c.args.cells) c.args.window c.args.host c.args.cleaner ≡ Some c.in_err-host.field-0.0 = host_refused (length c.args.cells) c.args.window c.args.host c.args.cleaner right why.0 ∙ ap Some (sym why.1) in
     search rules
 
-pub returns-in-Ok-leave : goal.returns-in-Ok-leave
-returns-in-Ok-leave g c =
+pub returns-in-Err : goal.returns-in-Err
+returns-in-Err g c =
     let made = c.make.ensures in
     let cells = length-map c.args.cells cell_of in
     let fits = accepted _ _ made.answer c.in_default.not-Refused in
