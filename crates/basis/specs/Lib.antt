@@ -1,3 +1,4 @@
 pub mod Told
+pub mod Kinds
 pub mod Refusals
 pub mod Answers
