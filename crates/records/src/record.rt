@@ -1,8 +1,11 @@
 // What a record of a schedule says.
-ghost use Rattle.std.specs.Prelude.{◌≡◌, [], Some};
-ghost use Rattle.records.specs.Records.{scheme, begin, described, is_setup, scheme_named, seat_call, setup_call, begin_call, decoded};
+ghost use Rattle.std.specs.Prelude.{◌≡◌, Some};
+ghost use Rattle.std.specs.Option.{ok_or};
+ghost use Rattle.basis.specs.declared.refusal.Refusal.TheVariants.{BadRecord};
+ghost use Rattle.records.specs.Records.{scheme, described, is_setup, scheme_named, seat_call, setup_call, begin_call, decoded};
 
 use basis::kind::Kind;
+use basis::refusal::Refusal;
 use std::fmt;
 
 // The schemes that a setup can name.
@@ -40,27 +43,32 @@ pub enum Record {
     },
 }
 
-impl SchemeName {
-    // The scheme's name, for a person.
-    pub fn word(self) -> &'static str
-        ensures { result.now ≡ (scheme self).word }
-    {
-        match self {
+// The scheme's name, for a person.
+impl fmt::Display for SchemeName {
+    ghost output = { λ s. Some (scheme s).word };
+
+    fn fmt<W: fmt::Write>(&self, f: &mut fmt::Formatter<W>) -> fmt::Result {
+        f.write_str(match self {
             SchemeName::Full => "full",
             SchemeName::Owner => "owner",
             SchemeName::Version => "version",
-        }
+        })
     }
 }
 
-// What a begin of that kind is called.
-fn begin_word(kind: Kind) -> &'static str
-    ensures { result.now ≡ (begin kind []).word }
-{
-    match kind {
-        Kind::Lookup => "begin lookup",
-        Kind::Insert => "begin insert",
-        Kind::Remove => "begin remove",
+// The scheme that a setup names by this number; another number makes a bad record.
+impl TryFrom<u8> for SchemeName {
+    type Error = Refusal;
+
+    ghost try_from_gives = { λ number r. r ≡ ok_or (scheme_named number) BadRecord };
+
+    fn try_from(number: u8) -> Result<SchemeName, Refusal> {
+        match number {
+            1 => Ok(SchemeName::Full),
+            2 => Ok(SchemeName::Owner),
+            3 => Ok(SchemeName::Version),
+            _ => Err(Refusal::BadRecord),
+        }
     }
 }
 
@@ -73,56 +81,43 @@ impl Record {
     }
 }
 
-fn scheme_of(number: u8) -> Option<SchemeName>
-    ensures { result ≡ scheme_named number }
-{
-    match number {
-        1 => Some(SchemeName::Full),
-        2 => Some(SchemeName::Owner),
-        3 => Some(SchemeName::Version),
-        _ => None,
-    }
-}
-
 // The calls whose only field is a seat.
-fn seat_record(call: u8, seat: u8) -> Option<Record>
-    ensures { result ≡ seat_call call seat }
+fn seat_record(call: u8, seat: u8) -> Result<Record, Refusal>
+    ensures { result ≡ ok_or (seat_call call seat) BadRecord }
 {
     match call {
-        1 => Some(Record::Join { seat }),
-        2 => Some(Record::Leave { seat }),
-        6 => Some(Record::Step { seat }),
-        7 => Some(Record::Abandon { seat }),
-        _ => None,
+        1 => Ok(Record::Join { seat }),
+        2 => Ok(Record::Leave { seat }),
+        6 => Ok(Record::Step { seat }),
+        7 => Ok(Record::Abandon { seat }),
+        _ => Err(Refusal::BadRecord),
     }
 }
 
-fn setup_record(call: u8, number: u8, cells: u16, window: u8) -> Option<Record>
-    ensures { result ≡ setup_call call number cells window }
+fn setup_record(call: u8, number: u8, cells: u16, window: u8) -> Result<Record, Refusal>
+    ensures { result ≡ ok_or (setup_call call number cells window) BadRecord }
 {
     if call != 0 {
-        return None;
+        return Err(Refusal::BadRecord);
     }
-    match scheme_of(number) {
-        Some(scheme) => Some(Record::Setup {
-            scheme,
-            cells,
-            window,
-        }),
-        None => None,
-    }
+    let scheme = SchemeName::try_from(number)?;
+    Ok(Record::Setup {
+        scheme,
+        cells,
+        window,
+    })
 }
 
-fn begin_record(call: u8, seat: u8, sector: u32) -> Option<Record>
-    ensures { result ≡ begin_call call seat sector }
+fn begin_record(call: u8, seat: u8, sector: u32) -> Result<Record, Refusal>
+    ensures { result ≡ ok_or (begin_call call seat sector) BadRecord }
 {
     let kind = match call {
         3 => Kind::Lookup,
         4 => Kind::Insert,
         5 => Kind::Remove,
-        _ => return None,
+        _ => return Err(Refusal::BadRecord),
     };
-    Some(Record::Begin { kind, seat, sector })
+    Ok(Record::Begin { kind, seat, sector })
 }
 
 impl fmt::Display for Record {
@@ -134,15 +129,11 @@ impl fmt::Display for Record {
                 scheme,
                 cells,
                 window,
-            } => {
-                let scheme = scheme.word();
-                write!(f, "setup {scheme}, cells {cells}, window {window}")
-            }
+            } => write!(f, "setup {scheme}, cells {cells}, window {window}"),
             Record::Join { seat } => write!(f, "join, seat {seat}"),
             Record::Leave { seat } => write!(f, "leave, seat {seat}"),
             Record::Begin { kind, seat, sector } => {
-                let word = begin_word(kind);
-                write!(f, "{word}, seat {seat}, sector {sector}")
+                write!(f, "begin {kind}, seat {seat}, sector {sector}")
             }
             Record::Step { seat } => write!(f, "step, seat {seat}"),
             Record::Abandon { seat } => write!(f, "abandon, seat {seat}"),
@@ -150,20 +141,24 @@ impl fmt::Display for Record {
     }
 }
 
-// What a record says, from its call byte on; None where these bytes are no record.
-pub fn decode(bytes: &[u8]) -> Option<Record>
-    ensures { result ≡ decoded bytes.now }
-{
-    match bytes {
-        [call, seat] => seat_record(*call, *seat),
-        [call, scheme, high, low, window] => {
-            let cells = u16::from_be_bytes([*high, *low]);
-            setup_record(*call, *scheme, cells, *window)
+// What bytes say, from the call byte on; bytes that say no record are a bad record.
+impl TryFrom<&[u8]> for Record {
+    type Error = Refusal;
+
+    ghost try_from_gives = { λ bytes r. r ≡ ok_or (decoded bytes.now) BadRecord };
+
+    fn try_from(bytes: &[u8]) -> Result<Record, Refusal> {
+        match bytes {
+            [call, seat] => seat_record(*call, *seat),
+            [call, scheme, high, low, window] => {
+                let cells = u16::from_be_bytes([*high, *low]);
+                setup_record(*call, *scheme, cells, *window)
+            }
+            [call, seat, a, b, c, d] => {
+                let sector = u32::from_be_bytes([*a, *b, *c, *d]);
+                begin_record(*call, *seat, sector)
+            }
+            _ => Err(Refusal::BadRecord),
         }
-        [call, seat, a, b, c, d] => {
-            let sector = u32::from_be_bytes([*a, *b, *c, *d]);
-            begin_record(*call, *seat, sector)
-        }
-        _ => None,
     }
 }

@@ -1,5 +1,5 @@
 -- The scheme of a name, run and computed. Assumes nothing.
-use Rattle.std.proofs.Common.{◌≡◌, ℕ, true, false, List, IfOk, Some, None, Ok, Err, Option, Result, MatchOption}
+use Rattle.std.proofs.Common.{◌≡◌, ℕ, true, false, List, IfOk, Ok, Err, Result, MatchResult}
 use Rattle.basis.specs.declared.answer.Answer.{Answer}
 use Rattle.keys.specs.declared.sector.Sector.{Sector}
 use Rattle.marks.specs.declared.full.Full as full
@@ -16,10 +16,10 @@ use Rattle.replay.specs.Answers.{blank, answers_by}
 use Rattle.replay.specs.Runs.{Over, Answered}
 use Rattle.replay.proofs.Ran.{over_computes}
 
--- what is said of a value that was made, if there is one, in other words
-pub said : {X E : Type 0} (r : Result (Option X) E) (P : Type 0) (Q R : X → Type 0) → ((x : X) → Q x → R x) → IfOk r (λ o. MatchOption o P Q) → IfOk r (λ o. MatchOption o P R)
-said (Ok None) P Q R f h = h
-said (Ok (Some x)) P Q R f h = f x h
+-- what is said of a value that was made, if it was, in other words
+pub said : {X D E : Type 0} (r : Result (Result X D) E) (P : D → Type 0) (Q R : X → Type 0) → ((x : X) → Q x → R x) → IfOk r (λ o. MatchResult o Q P) → IfOk r (λ o. MatchResult o R P)
+said (Ok (Err d)) P Q R f h = h
+said (Ok (Ok x)) P Q R f h = f x h
 said (Err e) P Q R f h = h
 
 module _ (n w : ℕ) (asks : List (Ask Sector)) (answers : List Answer) (sizes : makes n 16 w ≡ true) where

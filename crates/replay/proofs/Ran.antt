@@ -1,5 +1,5 @@
 -- What the driver says of calls on an index that is made for them. Assumes nothing.
-use Rattle.std.proofs.Common.{◌≡◌, ℕ, Bool, true, false, cond, ◌&&◌, List, length, sym, refl, ap, ◌∙◌, subst, arith}
+use Rattle.std.proofs.Common.{◌≡◌, ℕ, zero, suc, Bool, true, false, cond, ◌&&◌, List, ◌∷◌, map, replicate, length, sym, refl, ap, ◌∙◌, subst, arith}
 use Rattle.std.proofs.lemmas.Bool.{eq-eqb}
 use Rattle.basis.specs.declared.refusal.Refusal.TheVariants.{WrongSizes}
 use Rattle.basis.specs.declared.answer.Answer.{Answer}
@@ -15,6 +15,11 @@ use Rattle.list_law.specs.Worked.{sector_below}
 use Rattle.list_law.proofs.Driven.{driven_at}
 use Rattle.list_law.proofs.Computed.{answers_computed}
 use Rattle.replay.specs.Runs.{Over}
+
+-- the same made of each of some that are the same
+pub map_replicate : {X Y : Type 0} (f : X → Y) (n : ℕ) (x : X) → map f (replicate n x) ≡ replicate n (f x)
+map_replicate f zero x = refl
+map_replicate f (suc n) x = ap (λ l. f x ∷ l) (map_replicate f n x)
 
 -- accepted, or not
 told : (b : Bool) → cond b Ok (Refused WrongSizes) ≡ Ok → b ≡ true

@@ -1,5 +1,6 @@
 -- What was read of a schedule so far: its first record, and what its records ask. Assumes nothing.
-use Rattle.std.proofs.Common.{◌≡◌, ℕ, List, [], ◌∷◌, ◌++◌, true, Some, None, Option, vec_items, map, length, refl, sym, ap, ◌∙◌, append_assoc, append-nil}
+use Rattle.std.proofs.Common.{◌≡◌, ℕ, List, [], ◌∷◌, ◌++◌, true, Some, None, Option, vec_items, map, length, refl, sym, ap, ◌∙◌, append_assoc, append-nil, arith}
+use Rattle.std.specs.Option.{option_map}
 use Rattle.basis.specs.declared.refusal.Refusal.{Refusal}
 use Rattle.basis.specs.declared.refusal.Refusal.TheVariants.{BadRecord}
 use Rattle.basis.specs.declared.answer.Answer.TheVariants.{Refused}
@@ -11,10 +12,10 @@ use Rattle.list_driver.specs.Asks.{ask_of}
 use Rattle.records.specs.declared.record.Record.{Record}
 use Rattle.schedule.specs.declared.reader.Part.{Part}
 use Rattle.schedule.specs.declared.reader.Reader.{Reader}
-use Rattle.schedule.specs.Reading.{Entry, malformed, reading, next_of}
+use Rattle.schedule.specs.Reading.{Entry, Reading, handed, ended, malformed, reading, next_of}
 use Rattle.schedule.specs.Schedules.{still, Stops}
-use Rattle.schedule.specs.Whole.{seen}
-use Rattle.schedule.proofs.Sofar.{Sofar, Gave, sofar_more, sofar_all}
+use Rattle.schedule.specs.Whole.{seen, stop_number}
+use Rattle.schedule.proofs.Sofar.{Sofar, Gave, Stopped, sofar_more, sofar_all}
 use Rattle.replay.specs.declared.calls.Calls.{Calls}
 use Rattle.replay.specs.Answers.{asked_by, asks_of, setup_of, first_of}
 use Rattle.replay.specs.Texts.{stopped, stop_at}
@@ -49,18 +50,22 @@ taken_more bytes before p after t g e f = record {
   asked = f ∙ ap (λ l. l ++ asked_by p.content) t.asked ∙ sym (asks_more t.records (seen p));
 }
 
+-- the refusal at which reading stops, if there is one
+stopped_by : (o : Option Refusal) (x : Reading) → Stops x → option_map (λ (r : Refusal). (refusal r).number) o ≡ stop_number x → refused_by o ≡ stopped x
+stopped_by o (handed e left) s n = absurd s
+stopped_by None ended s n = refl
+stopped_by (Some r) ended s n = let z : ◌≡◌ {A = ℕ} 0 1 = cc in absurd (omega arith)
+stopped_by None malformed s n = let z : ◌≡◌ {A = ℕ} 0 1 = cc in absurd (omega arith)
+stopped_by (Some r) malformed s n = let m : (refusal r).number ≡ 11 = cc in ap (λ q. Refused q ∷ []) (same_number r BadRecord m)
+
 -- where no further record is handed out, that is all that the schedule says
-pub says : (bytes : List ℕ) (c : Calls) (reader : Reader) → Taken bytes reader c.setup (map ask_of (vec_items c.asks)) → Stops (reading reader) → refused_by c.stop ≡ stopped (reading reader) → Says bytes c
-says bytes c reader t stops e =
-    let all = sofar_all bytes t.records reader t.sofar stops in
+pub says : (bytes : List ℕ) (c : Calls) (reader after : Reader) → Taken bytes reader c.setup (map ask_of (vec_items c.asks)) → Stopped reader c.stop after → Says bytes c
+says bytes c reader after t s =
+    let all = sofar_all bytes t.records reader t.sofar s.stops in
     let asked : next_of reader.first reader.total reader.rest.now ≡ stop_at bytes =
     (λ i. next_of (t.sofar.first i) (t.sofar.total i) reader.rest.now) ∙ (λ i. next_of (still true (sym all i).entries) (length bytes) (sym all i).rest) in
     record {
       setup = t.first ∙ ap (λ l. setup_of l.entries) (sym all);
       asks = t.asked ∙ ap (λ l. asks_of l.entries) (sym all);
-      stop = e ∙ ap stopped asked;
+      stop = stopped_by c.stop (reading reader) s.stops s.number ∙ ap stopped asked;
     }
-
--- the refusal at which reading stops
-pub stopped_at : (reader : Reader) (r : Refusal) → reading reader ≡ malformed → (refusal r).number ≡ 11 → refused_by (Some r) ≡ stopped (reading reader)
-stopped_at reader r is n = ap (λ q. Refused q ∷ []) (same_number r BadRecord n) ∙ sym (ap stopped is)

@@ -1,5 +1,6 @@
 // What a schedule asks of the index.
-ghost use Rattle.std.specs.Prelude.{◌≡◌, ◌++◌, map, None, IfOk, OnOk};
+ghost use Rattle.std.specs.Prelude.{◌≡◌, ◌++◌, map, Some, None, IfOk, OnOk, MatchResult};
+ghost use Rattle.basis.specs.Refusals.{refusal};
 ghost use Rattle.schedule.specs.Reading.{open_refusal};
 ghost use Rattle.list_driver.specs.Asks.{ask_of};
 ghost use Rattle.replay.specs.Answers.{asked_by, first_of};
@@ -10,7 +11,7 @@ use keys::sector::Sector;
 use list_driver::driver::Ask;
 use list_window::turn::Request;
 use records::record::Record;
-use schedule::reader::{Outcome, Reader};
+use schedule::reader::Reader;
 use std::alloc::{AllocError, Global};
 
 // What a record asks, with interrupts open; a setup asks nothing.
@@ -36,26 +37,6 @@ fn ask_by(content: Record) -> Option<Ask<Sector>>
     })
 }
 
-// One record more.
-fn push_ask(asks: &mut Vec<Ask<Sector>>, content: Record) -> Result<(), AllocError>
-    ensures { OnOk result (map ask_of asks.new.items ≡ map ask_of asks.old.items ++ asked_by content) }
-{
-    if let Some(ask) = ask_by(content) {
-        asks.push(ask)?;
-    }
-    Ok(())
-}
-
-// The first record of all: the one that was first so far, or else this one.
-fn first_of(first: Option<Record>, content: Record) -> Option<Record>
-    ensures { result ≡ first_of first content }
-{
-    match first {
-        None => Some(content),
-        Some(_) => first,
-    }
-}
-
 // What a schedule says: its setup, what the calls after it ask, and the refusal at which reading stopped, None where it came to the end.
 #[derive(Drop)]
 pub struct Calls {
@@ -64,34 +45,40 @@ pub struct Calls {
     pub stop: Option<Refusal>,
 }
 
-// Everything that the reader hands out of these bytes, which are a schedule that is opened.
-pub fn read_calls(heap: Global, bytes: &[u8]) -> Result<Calls, AllocError>
-    ensures { IfOk result (λ c. open_refusal bytes.now ≡ None → Says bytes.now c) }
+impl Calls {
+    // One record more: the first of all is the setup, and what each asks is added.
+    fn add(&mut self, content: Record) -> Result<(), AllocError>
+        ensures setup { OnOk result (self.new.setup ≡ first_of self.old.setup content) }
+        ensures asks { OnOk result (map ask_of self.new.asks.items ≡ map ask_of self.old.asks.items ++ asked_by content) }
+    {
+        self.setup = self.setup.or(Some(content));
+        if let Some(ask) = ask_by(content) {
+            self.asks.push(ask)?;
+        }
+        Ok(())
+    }
+}
+
+// Everything that the reader hands out of these bytes, or the refusal to open them.
+pub fn read_calls(heap: Global, bytes: &[u8]) -> Result<Result<Calls, Refusal>, AllocError>
+    ensures { IfOk result (λ r. MatchResult r (λ c. (open_refusal bytes.now ≡ None) × Says bytes.now c) (λ e. open_refusal bytes.now ≡ Some (refusal e).number)) }
 {
-    // a record has four bytes at least
-    let mut asks = Vec::with_capacity(heap, bytes.len() / 4)?;
-    let mut setup = None;
     let mut reader = match Reader::open(bytes) {
         Ok(reader) => reader,
-        Err(refusal) => {
-            let stop = Some(refusal);
-            return Ok(Calls { setup, asks, stop });
+        Err(refusal) => return Ok(Err(refusal)),
+    };
+    let mut calls = Calls {
+        setup: None,
+        // a record has four bytes at least
+        asks: Vec::with_capacity(heap, bytes.len() / 4)?,
+        stop: None,
+    };
+    calls.stop = loop {
+        match reader.next() {
+            Ok(Some(part)) => calls.add(part.content)?,
+            Ok(None) => break None,
+            Err(refusal) => break Some(refusal),
         }
     };
-    loop {
-        match reader.next() {
-            Outcome::Handed(part) => {
-                setup = first_of(setup, part.content);
-                push_ask(&mut asks, part.content)?;
-            }
-            Outcome::Ended => {
-                let stop = None;
-                return Ok(Calls { setup, asks, stop });
-            }
-            Outcome::Refused(refusal) => {
-                let stop = Some(refusal);
-                return Ok(Calls { setup, asks, stop });
-            }
-        }
-    }
+    Ok(Ok(calls))
 }

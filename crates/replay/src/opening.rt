@@ -1,20 +1,14 @@
 // What the opening of a schedule is answered: nothing is made, and no call is run.
 ghost use Rattle.std.specs.Prelude.{◌≡◌, IfOk, string_bytes};
-ghost use Rattle.replay.specs.Opening.{sizes_fit, setup_answer, opening_of};
+ghost use Rattle.replay.specs.Opening.{setup_answer, opening_of};
 
 use basis::answer::Answer;
 use basis::refusal::Refusal;
+use list_making::making::sizes_fit;
 use records::record::Record;
 use schedule::lines::line;
-use schedule::reader::{Outcome, Reader};
+use schedule::reader::Reader;
 use std::alloc::{AllocError, Global};
-
-// The numbers of cells and the windows that a setup may ask for.
-fn sizes_fit(cells: u16, window: u8) -> bool
-    ensures { result ≡ sizes_fit cells window }
-{
-    (1 <= cells) & (cells <= 1008) & (1 <= window) & (window <= 64)
-}
 
 // What the first record is answered.
 fn setup_answer(content: Record) -> Answer
@@ -26,7 +20,7 @@ fn setup_answer(content: Record) -> Answer
             cells,
             window,
         } => {
-            if sizes_fit(cells, window) {
+            if sizes_fit(usize::from(cells), 16, window) {
                 Answer::Ok
             } else {
                 Answer::Refused(Refusal::WrongSizes)
@@ -46,8 +40,8 @@ pub fn answer_opening(heap: Global, bytes: &[u8]) -> Result<String, AllocError>
         Err(refusal) => return line(heap, 0, Answer::Refused(refusal)),
     };
     match reader.next() {
-        Outcome::Handed(part) => line(heap, 1, setup_answer(part.content)),
-        Outcome::Ended => Ok(String::new(heap)),
-        Outcome::Refused(refusal) => line(heap, 1, Answer::Refused(refusal)),
+        Ok(Some(part)) => line(heap, 1, setup_answer(part.content)),
+        Ok(None) => Ok(String::new(heap)),
+        Err(refusal) => line(heap, 1, Answer::Refused(refusal)),
     }
 }

@@ -1,6 +1,6 @@
 // The calls of a schedule, run on an index of their own.
-ghost use Rattle.std.specs.Prelude.{◌≡◌, true, false, map, length, IfOk, MatchOption};
-ghost use Rattle.marks.specs.Version.{version_state, version_new};
+ghost use Rattle.std.specs.Prelude.{◌≡◌, true, false, map, length, IfOk, MatchResult};
+ghost use Rattle.basis.specs.declared.refusal.Refusal.TheVariants.{WrongSizes};
 ghost use Rattle.list_law.specs.Making.{makes};
 ghost use Rattle.list_driver.specs.Asks.{ask_of};
 ghost use Rattle.list_cells.specs.Views.{cell_of};
@@ -9,6 +9,7 @@ ghost use Rattle.replay.specs.Runs.{Over, Answered};
 
 use basis::answer::Answer;
 use basis::mask::Mask;
+use basis::refusal::Refusal;
 use keys::sector::Sector;
 use list_cells::cell::{Anchor, Cell};
 use list_driver::driver::{Ask, run_calls};
@@ -24,24 +25,20 @@ use std::alloc::{AllocError, Global};
 fn blank_cells(heap: Global, count: u16) -> Result<Vec<Cell<Sector>>, AllocError>
     ensures { IfOk result (λ v. map cell_of v.items ≡ blank count) }
 {
-    let mut cells = Vec::with_capacity(heap, count as usize)?;
-    for _ in 0..count {
-        cells.push(Cell::new(Sector { number: 0 }, None, false))?;
-    }
-    Ok(cells)
+    let blank = Cell::new(Sector { number: 0 }, None, false);
+    Ok(vec![in heap; blank; usize::from(count)]?)
 }
 
-// Runs the calls on an index made over these cells; false where making refuses their sizes.
+// Runs the calls on an index made over these cells, if making takes their sizes.
 fn run_over<S: Scheme>(
     scheme: &mut S,
     cells: &mut [Cell<Sector>],
     window: u8,
     asks: &[Ask<Sector>],
     answers: &mut [Answer],
-) -> bool
+) -> Result<(), Refusal>
     requires { length asks.now ≡ length answers.old }
-    ensures sizes { result ≡ makes (length cells.old) 16 window }
-    ensures ran { result ≡ true → Over S.Scheme.table S.Scheme.strict S.Scheme.acts (map cell_of cells.old) window scheme.old (map ask_of asks.now) answers.new }
+    ensures { MatchResult result (λ _. (makes (length cells.old) 16 window ≡ true) × Over S.Scheme.table S.Scheme.strict S.Scheme.acts (map cell_of cells.old) window scheme.old (map ask_of asks.now) answers.new) (λ e. (makes (length cells.old) 16 window ≡ false) × (e ≡ WrongSizes)) }
 {
     let mut rows = [Row { doing: Doing::Away }; 16];
     let mut anchor = Anchor {
@@ -61,92 +58,49 @@ fn run_over<S: Scheme>(
         asks,
         answers,
     ) {
-        Answer::Ok => true,
-        _ => false,
+        Answer::Ok => Ok(()),
+        _ => Err(Refusal::WrongSizes),
     }
 }
 
-// The answers of the calls on an index of so many cells with that window, over the scheme; None where making refuses these sizes.
+// The answers of the calls on an index of so many cells with that window, over the scheme; refused where making refuses these sizes.
 fn answers_over<S: Scheme>(
     heap: Global,
     scheme: &mut S,
     count: u16,
     window: u8,
     asks: &[Ask<Sector>],
-) -> Result<Option<Vec<Answer>>, AllocError>
-    ensures { IfOk result (λ o. MatchOption o (makes count 16 window ≡ false) (λ v. (makes count 16 window ≡ true) × Over S.Scheme.table S.Scheme.strict S.Scheme.acts (blank count) window scheme.old (map ask_of asks.now) v.items)) }
+) -> Result<Result<Vec<Answer>, Refusal>, AllocError>
+    ensures { IfOk result (λ r. MatchResult r (λ v. (makes count 16 window ≡ true) × Over S.Scheme.table S.Scheme.strict S.Scheme.acts (blank count) window scheme.old (map ask_of asks.now) v.items) (λ e. (makes count 16 window ≡ false) × (e ≡ WrongSizes))) }
 {
     let mut cells = blank_cells(heap, count)?;
     let mut answers = vec![in heap; Answer::Ok; asks.len()]?;
-    if run_over(
+    let run = run_over(
         scheme,
         cells.as_mut_slice(),
         window,
         asks,
         answers.as_mut_slice(),
-    ) {
-        Ok(Some(answers))
-    } else {
-        Ok(None)
+    );
+    if let Err(refusal) = run {
+        return Ok(Err(refusal));
     }
+    Ok(Ok(answers))
 }
 
-// The same over the full scheme.
-fn answers_full(
-    heap: Global,
-    count: u16,
-    window: u8,
-    asks: &[Ask<Sector>],
-) -> Result<Option<Vec<Answer>>, AllocError>
-    ensures { IfOk result (λ o. MatchOption o (makes count 16 window ≡ false) (λ v. Answered SchemeName.Full count window (map ask_of asks.now) v.items)) }
-{
-    answers_over(heap, &mut Full::new(), count, window, asks)
-}
-
-// The same over the owner scheme, with all slots nobody.
-fn answers_owner(
-    heap: Global,
-    count: u16,
-    window: u8,
-    asks: &[Ask<Sector>],
-) -> Result<Option<Vec<Answer>>, AllocError>
-    ensures { IfOk result (λ o. MatchOption o (makes count 16 window ≡ false) (λ v. Answered SchemeName.Owner count window (map ask_of asks.now) v.items)) }
-{
-    answers_over(heap, &mut Owner::new(), count, window, asks)
-}
-
-// The counters of a replay start at 0.
-fn version_from_zero() -> Version
-    ensures { version_state result.kept ≡ version_new 0 }
-{
-    Version::new(0)
-}
-
-// The same over the version scheme.
-fn answers_version(
-    heap: Global,
-    count: u16,
-    window: u8,
-    asks: &[Ask<Sector>],
-) -> Result<Option<Vec<Answer>>, AllocError>
-    ensures { IfOk result (λ o. MatchOption o (makes count 16 window ≡ false) (λ v. Answered SchemeName.Version count window (map ask_of asks.now) v.items)) }
-{
-    answers_over(heap, &mut version_from_zero(), count, window, asks)
-}
-
-// The same over the scheme of that name.
+// The same over the scheme of that name: full, owner with all slots nobody, version with counters from 0.
 pub fn answers_by(
     heap: Global,
     name: SchemeName,
     count: u16,
     window: u8,
     asks: &[Ask<Sector>],
-) -> Result<Option<Vec<Answer>>, AllocError>
-    ensures { IfOk result (λ o. MatchOption o (makes count 16 window ≡ false) (λ v. Answered name count window (map ask_of asks.now) v.items)) }
+) -> Result<Result<Vec<Answer>, Refusal>, AllocError>
+    ensures { IfOk result (λ r. MatchResult r (λ v. Answered name count window (map ask_of asks.now) v.items) (λ e. (makes count 16 window ≡ false) × (e ≡ WrongSizes))) }
 {
     match name {
-        SchemeName::Full => answers_full(heap, count, window, asks),
-        SchemeName::Owner => answers_owner(heap, count, window, asks),
-        SchemeName::Version => answers_version(heap, count, window, asks),
+        SchemeName::Full => answers_over(heap, &mut Full::new(), count, window, asks),
+        SchemeName::Owner => answers_over(heap, &mut Owner::new(), count, window, asks),
+        SchemeName::Version => answers_over(heap, &mut Version::new(0), count, window, asks),
     }
 }

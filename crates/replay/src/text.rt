@@ -1,7 +1,7 @@
 // The text that answers what a schedule says.
 ghost use Rattle.std.specs.Prelude.{◌≡◌, ◌∷◌, ◌++◌, map, IfOk, OnOk, string_bytes};
 ghost use Rattle.list_driver.specs.Asks.{ask_of};
-ghost use Rattle.schedule.specs.Lines.{line_of, lines_from};
+ghost use Rattle.schedule.specs.Lines.{lines_from};
 ghost use Rattle.replay.specs.Texts.{outcomes, Lawfully};
 ghost use Rattle.replay.specs.Views.{refused_by};
 
@@ -13,35 +13,14 @@ use records::record::Record;
 use schedule::lines::{line, push_line, push_lines};
 use std::alloc::{AllocError, Global};
 
-// Adds the line of a refusal.
-fn push_refusal(text: &mut String, number: usize, refusal: Refusal) -> Result<(), AllocError>
-    ensures { OnOk result (string_bytes text.new ≡ string_bytes text.old ++ line_of number (Answer.Refused refusal)) }
-{
-    push_line(text, number, Answer::Refused(refusal))
-}
-
-// A refused setup is all that is answered.
-fn text_of_refused(heap: Global) -> Result<String, AllocError>
-    ensures { IfOk result (λ text. string_bytes text ≡ line_of 1 (Answer.Refused Refusal.WrongSizes)) }
-{
-    line(heap, 1, Answer::Refused(Refusal::WrongSizes))
-}
-
-// Adds the line of the setup, which was accepted.
-fn push_accepted(text: &mut String) -> Result<(), AllocError>
-    ensures { OnOk result (string_bytes text.new ≡ string_bytes text.old ++ line_of 1 Answer.Ok) }
-{
-    push_line(text, 1, Answer::Ok)
-}
-
 // Adds the line of the refusal at which reading stopped, if there is one.
 fn push_stop(text: &mut String, number: usize, stop: Option<Refusal>) -> Result<(), AllocError>
     ensures { OnOk result (string_bytes text.new ≡ string_bytes text.old ++ lines_from number (refused_by stop)) }
 {
-    match stop {
-        None => Ok(()),
-        Some(refusal) => push_refusal(text, number, refusal),
+    if let Some(refusal) = stop {
+        push_line(text, number, Answer::Refused(refusal))?;
     }
+    Ok(())
 }
 
 // A schedule with no record is answered by the refusal at which reading stopped, if there is one.
@@ -63,7 +42,7 @@ fn text_of_answers(
 {
     // room for lines of the usual length
     let mut text = String::with_capacity(heap, answers.len().saturating_mul(12))?;
-    push_accepted(&mut text)?;
+    push_line(&mut text, 1, Answer::Ok)?;
     push_lines(&mut text, 2, answers)?;
     push_stop(&mut text, answers.len() + 2, stop)?;
     Ok(text)
@@ -89,7 +68,7 @@ pub fn text_of(heap: Global, calls: Calls) -> Result<String, AllocError>
     // the room of what was asked is given back before room for the text is taken
     drop(asks);
     match answers {
-        None => text_of_refused(heap),
-        Some(answers) => text_of_answers(heap, answers.as_slice(), stop),
+        Ok(answers) => text_of_answers(heap, answers.as_slice(), stop),
+        Err(refusal) => line(heap, 1, Answer::Refused(refusal)),
     }
 }

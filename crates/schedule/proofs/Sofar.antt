@@ -1,6 +1,6 @@
 -- What the loop over a whole schedule keeps: the records so far, and what is still read of the bytes left, are all of it.
 -- Assumes nothing.
-use Rattle.std.proofs.Common.{◌≡◌, ℕ, zero, suc, ◌-◌, ◌<◌, ◌≤◌, Bool, true, false, List, [], ◌∷◌, ◌++◌, map, length, get_or, Some, None, vec_items, sym, refl, ap, ◌∙◌, append_assoc, append-nil, arith, w8, Fits}
+use Rattle.std.proofs.Common.{◌≡◌, ℕ, zero, suc, ◌-◌, ◌<◌, ◌≤◌, Bool, true, false, List, [], ◌∷◌, ◌++◌, map, length, get_or, Some, None, Ok, Err, Option, Result, vec_items, sym, refl, ap, ◌∙◌, subst, append_assoc, append-nil, arith, w8, Fits}
 use Rattle.std.proofs.ByRecursion.{All-from_get_or}
 use Rattle.std.specs.Option.{option_map}
 use Rattle.basis.specs.declared.refusal.Refusal.{Refusal}
@@ -8,7 +8,6 @@ use Rattle.basis.specs.Told.{Case}
 use Rattle.basis.specs.Refusals.{refusal}
 use Rattle.schedule.specs.declared.reader.Part.{Part}
 use Rattle.schedule.specs.declared.reader.Reader.{Reader}
-use Rattle.schedule.specs.declared.reader.Outcome.TheVariants.{Handed, Ended, Refused}
 use Rattle.schedule.specs.declared.contents.Contents.{Contents}
 use Rattle.schedule.specs.Reading.{Entry, entry, Reading, handed, ended, malformed, next_of, reading, outcome, due, content_due, left_after, first_after, Asked, open_refusal}
 use Rattle.schedule.specs.Schedules.{listing, read_more, read_on, read_all, still, Bytes, Stops}
@@ -26,10 +25,10 @@ pub record Gave (before : Reader) (p : Part) (after : Reader) : Type 0 where
   pub total : after.total ≡ before.total
   pub first : after.first ≡ false
 
-pub gave : (before : Reader) (p : Part) (after : Reader) → Asked before (Handed p) after → Gave before p after
-gave before p after a = go (reading before) refl a.value a.content a.rest a.first
+gave_record : (before : Reader) (p : Part) (after : Reader) → Asked before (Ok (Some p)) after → Gave before p after
+gave_record before p after a = go (reading before) refl a.value a.content a.rest a.first
   where
-    go : (x : Reading) → reading before ≡ x → outcome (Handed p) ≡ due x → Some p.content ≡ content_due x → after.rest.now ≡ left_after x before.rest.now → after.first ≡ first_after x before.first → Gave before p after
+    go : (x : Reading) → reading before ≡ x → outcome (Ok (Some p)) ≡ due x → Some p.content ≡ content_due x → after.rest.now ≡ left_after x before.rest.now → after.first ≡ first_after x before.first → Gave before p after
     go (handed e left) is v c r f =
         let vs : ◌≡◌ {A = List ℕ} (p.offset ∷ p.bytes.now) (e.offset ∷ e.bytes) = ap (λ (k : Case). k.values) v in
         let offset : p.offset ≡ e.offset = cc in
@@ -39,23 +38,52 @@ gave before p after a = go (reading before) refl a.value a.content a.rest a.firs
     go ended is v c r f = let z : ◌≡◌ {A = ℕ} 0 1 = ap (λ (k : Case). k.number) v in absurd (omega arith)
     go malformed is v c r f = let z : ◌≡◌ {A = ℕ} 0 2 = ap (λ (k : Case). k.number) v in absurd (omega arith)
 
-pub gave_end : (before : Reader) (after : Reader) → Asked before Ended after → reading before ≡ ended
+pub gave : (before : Reader) {r : Result (Option Part) Refusal} (p : Part) (after : Reader) → r ≡ Ok (Some p) → Asked before r after → Gave before p after
+gave before p after e a = gave_record before p after (subst (λ r. Asked before r after) e a)
+
+gave_end : (before : Reader) (after : Reader) → Asked before (Ok None) after → reading before ≡ ended
 gave_end before after a = go (reading before) refl a.value
   where
-    go : (x : Reading) → reading before ≡ x → outcome Ended ≡ due x → reading before ≡ ended
+    go : (x : Reading) → reading before ≡ x → outcome (Ok None) ≡ due x → reading before ≡ ended
     go (handed e left) is v = let z : ◌≡◌ {A = ℕ} 1 0 = ap (λ (k : Case). k.number) v in absurd (omega arith)
     go ended is v = is
     go malformed is v = let z : ◌≡◌ {A = ℕ} 1 2 = ap (λ (k : Case). k.number) v in absurd (omega arith)
 
-pub gave_refusal : (before : Reader) (r : Refusal) (after : Reader) → Asked before (Refused r) after → (reading before ≡ malformed) × ((refusal r).number ≡ 11)
+gave_refusal : (before : Reader) (r : Refusal) (after : Reader) → Asked before (Err r) after → (reading before ≡ malformed) × ((refusal r).number ≡ 11)
 gave_refusal before r after a = go (reading before) refl a.value
   where
-    go : (x : Reading) → reading before ≡ x → outcome (Refused r) ≡ due x → (reading before ≡ malformed) × ((refusal r).number ≡ 11)
+    go : (x : Reading) → reading before ≡ x → outcome (Err r) ≡ due x → (reading before ≡ malformed) × ((refusal r).number ≡ 11)
     go (handed e left) is v = let z : ◌≡◌ {A = ℕ} 2 0 = ap (λ (k : Case). k.number) v in absurd (omega arith)
     go ended is v = let z : ◌≡◌ {A = ℕ} 2 1 = ap (λ (k : Case). k.number) v in absurd (omega arith)
     go malformed is v =
         let vs : ◌≡◌ {A = List ℕ} ((refusal r).number ∷ []) (11 ∷ []) = ap (λ (k : Case). k.values) v in
         (is, cc)
+
+-- an asking that hands out no record: reading stops there, by that refusal or at the end, and the reader stays
+pub record Stopped (before : Reader) (stop : Option Refusal) (after : Reader) : Type 0 where
+  pub stops : Stops (reading before)
+  pub number : option_map (λ (r : Refusal). (refusal r).number) stop ≡ stop_number (reading before)
+  pub offset : after.total - length after.rest.now ≡ before.total - length before.rest.now
+
+pub stopped_end : (before : Reader) {r : Result (Option Part) Refusal} {stop : Option Refusal} (after : Reader) → r ≡ Ok None → stop ≡ None → Asked before r after → Stopped before stop after
+stopped_end before after e f b =
+    let a = subst (λ r. Asked before r after) e b in
+    let is = gave_end before after a in
+    record {
+      stops = subst Stops (sym is) tt;
+      number = ap (option_map (λ (r : Refusal). (refusal r).number)) f ∙ sym (ap stop_number is);
+      offset = λ i. a.total i - length ((a.rest ∙ ap (λ x. left_after x before.rest.now) is) i);
+    }
+
+pub stopped_refusal : (before : Reader) {r : Result (Option Part) Refusal} {stop : Option Refusal} (q : Refusal) (after : Reader) → r ≡ Err q → stop ≡ Some q → Asked before r after → Stopped before stop after
+stopped_refusal before q after e f b =
+    let a = subst (λ r. Asked before r after) e b in
+    let is = gave_refusal before q after a in
+    record {
+      stops = subst Stops (sym is.0) tt;
+      number = ap (option_map (λ (r : Refusal). (refusal r).number)) f ∙ ap Some is.1 ∙ sym (ap stop_number is.0);
+      offset = λ i. a.total i - length ((a.rest ∙ ap (λ x. left_after x before.rest.now) is.0) i);
+    }
 
 -- the records so far, with enough askings left for the rest
 pub record Sofar (bytes : List ℕ) (es : List Entry) (reader : Reader) : Type 0 where
@@ -117,14 +145,14 @@ sofar_all bytes es reader s stops =
     s.whole ∙ (λ i. listing (es ++ (none i).entries) (none i).rest) ∙ ap (λ l. listing l reader.rest.now) (append-nil es)
 
 -- then the contents are those of the bytes
-pub holds_all : (bytes : List ℕ) (c : Contents) (reader : Reader) → open_refusal bytes ≡ None → Bytes bytes → Sofar bytes (map seen (vec_items c.parts)) reader → Stops (reading reader) → option_map (λ (r : Refusal). (refusal r).number) c.refusal ≡ stop_number (reading reader) → c.stop ≡ reader.total - length reader.rest.now → Holds bytes c
-holds_all bytes c reader opened all s stops refused at =
+pub holds_all : (bytes : List ℕ) (c : Contents) (reader after : Reader) → open_refusal bytes ≡ None → Bytes bytes → Sofar bytes (map seen (vec_items c.parts)) reader → Stopped reader c.refusal after → c.stop ≡ after.total - length after.rest.now → Holds bytes c
+holds_all bytes c reader after opened all s stopped at =
     let es = map seen (vec_items c.parts) in
-    let is = sofar_all bytes es reader s stops in
+    let is = sofar_all bytes es reader s stopped.stops in
     let asked : next_of reader.first reader.total reader.rest.now ≡ next_of (still true (read_all bytes).entries) (length bytes) (read_all bytes).rest = (λ i. next_of (s.first i) (s.total i) reader.rest.now) ∙ (λ i. next_of (still true (sym is i).entries) (length bytes) (sym is i).rest) in
     record {
       parts = ap (λ l. l.entries) (sym is) ∙ sym (ap (entries_of bytes) opened);
-      refused = refused ∙ ap stop_number asked ∙ sym (ap (refusal_of bytes) opened);
-      stop = at ∙ (λ i. s.total i - length (sym is i).rest) ∙ sym (ap (stop_of bytes) opened);
+      refused = stopped.number ∙ ap stop_number asked ∙ sym (ap (refusal_of bytes) opened);
+      stop = at ∙ stopped.offset ∙ (λ i. s.total i - length (sym is i).rest) ∙ sym (ap (stop_of bytes) opened);
       accounted = nothing_lost bytes all;
     }

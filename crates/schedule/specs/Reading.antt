@@ -1,11 +1,11 @@
 -- What the reader does: how it opens, and what one asking gives. Assumes nothing.
-use Rattle.std.specs.Prelude.{◌≡◌, ℕ, ◌-◌, Bool, true, false, cond, not, List, [], ◌∷◌, length, take, drop, Some, None, codes, Option, ◌==◌, nat_lt}
+use Rattle.std.specs.Prelude.{◌≡◌, ℕ, ◌-◌, Bool, true, false, cond, not, List, [], ◌∷◌, length, take, drop, Some, None, codes, Option, Ok, Err, Result, ◌==◌, nat_lt}
 use Rattle.basis.specs.Told.{Case, told}
 use Rattle.basis.specs.Refusals.{refusal}
 use Rattle.records.specs.declared.record.Record.{Record}
+use Rattle.basis.specs.declared.refusal.Refusal.{Refusal}
+use Rattle.schedule.specs.declared.reader.Part.{Part}
 use Rattle.schedule.specs.declared.reader.Reader.{Reader}
-use Rattle.schedule.specs.declared.reader.Outcome.{Outcome}
-use Rattle.schedule.specs.declared.reader.Outcome.TheVariants.{Handed, Ended, Refused}
 use Rattle.records.specs.Records.{is_setup, from_two, decoded}
 
 -- a record as it is handed out: where its call byte stands, its bytes from there on, and what they say
@@ -69,11 +69,12 @@ next_of first total (b ∷ bytes) = parted first total (cut_of (b ∷ bytes))
 abbrev pub reading : Reader → Reading
 reading reader = next_of reader.first reader.total reader.rest.now
 
--- the outcomes of the reader: number, word and values of each; a record carries its offset and then its bytes
-abbrev pub outcome : Outcome → Case
-outcome (Handed p) = told 0 (codes "record") (p.offset ∷ p.bytes.now)
-outcome Ended = told 1 (codes "end") []
-outcome (Refused r) = told 2 (codes "refused") ((refusal r).number ∷ [])
+-- what one asking of the reader gives, a record, the end or a refusal: number, word and values of each; a record carries its offset and
+-- then its bytes
+abbrev pub outcome : Result (Option Part) Refusal → Case
+outcome (Ok (Some p)) = told 0 (codes "record") (p.offset ∷ p.bytes.now)
+outcome (Ok None) = told 1 (codes "end") []
+outcome (Err r) = told 2 (codes "refused") ((refusal r).number ∷ [])
 
 -- the outcome that an asking has to have
 abbrev pub due : Reading → Case
@@ -82,10 +83,10 @@ due ended = told 1 (codes "end") []
 due malformed = told 2 (codes "refused") (11 ∷ [])
 
 -- what the record says that is handed out, if one is
-abbrev pub content_of : Outcome → Option Record
-content_of (Handed p) = Some p.content
-content_of Ended = None
-content_of (Refused r) = None
+abbrev pub content_of : Result (Option Part) Refusal → Option Record
+content_of (Ok (Some p)) = Some p.content
+content_of (Ok None) = None
+content_of (Err r) = None
 
 abbrev pub content_due : Reading → Option Record
 content_due (handed e left) = Some e.content
@@ -104,7 +105,7 @@ first_after ended first = first
 first_after malformed first = first
 
 -- a reader asked once: the outcome, and the reader afterwards
-pub record Asked (before : Reader) (r : Outcome) (after : Reader) : Type 0 where
+pub record Asked (before : Reader) (r : Result (Option Part) Refusal) (after : Reader) : Type 0 where
   pub value : outcome r ≡ due (reading before)
   pub content : content_of r ≡ content_due (reading before)
   pub rest : after.rest.now ≡ left_after (reading before) before.rest.now

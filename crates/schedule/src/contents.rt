@@ -2,12 +2,12 @@
 ghost use Rattle.std.specs.Prelude.{IfOk};
 ghost use Rattle.schedule.specs.Whole.{Holds};
 
-use crate::reader::{Outcome, Part, Reader};
+use crate::reader::{Part, Reader};
 use basis::refusal::Refusal;
 use std::alloc::{AllocError, Global};
 
 // The records of a schedule in their order, the refusal at which reading stopped, None where it came to the end, and the offset there.
-#[derive(Drop)]
+#[derive(PartialEq, Eq, Debug, Drop)]
 pub struct Contents<'a> {
     pub parts: Vec<Part<'a>>,
     pub refusal: Option<Refusal>,
@@ -29,24 +29,16 @@ pub fn read_whole(heap: Global, bytes: &[u8]) -> Result<Contents<'_>, AllocError
             });
         }
     };
-    loop {
-        let stop = reader.offset();
+    let refusal = loop {
         match reader.next() {
-            Outcome::Handed(part) => parts.push(part)?,
-            Outcome::Ended => {
-                return Ok(Contents {
-                    parts,
-                    refusal: None,
-                    stop,
-                });
-            }
-            Outcome::Refused(refusal) => {
-                return Ok(Contents {
-                    parts,
-                    refusal: Some(refusal),
-                    stop,
-                });
-            }
+            Ok(Some(part)) => parts.push(part)?,
+            Ok(None) => break None,
+            Err(refusal) => break Some(refusal),
         }
-    }
+    };
+    Ok(Contents {
+        parts,
+        refusal,
+        stop: reader.offset(),
+    })
 }

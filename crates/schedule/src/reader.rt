@@ -1,30 +1,23 @@
 // The reader of a schedule, over bytes that it borrows.
 ghost use Rattle.std.specs.Prelude.{◌≡◌, ◌-◌, true, false, ◌∷◌, length, Some, None, MatchOption, MatchResult, nat_lt};
+ghost use Rattle.basis.specs.declared.refusal.Refusal.TheVariants.{BadRecord};
 ghost use Rattle.basis.specs.Refusals.{refusal};
 ghost use Rattle.records.specs.Records.{from_two};
 ghost use Rattle.schedule.specs.Reading.{open_refusal, cut_of, content_at, Asked};
 
 use basis::refusal::Refusal;
-use records::record::{Record, decode};
+use records::record::Record;
 
 // One record as it is handed out: its bytes from the call byte on, a part of the schedule, the offset of that byte, and what the record says.
-#[derive(Clone, Copy, Debug)]
+#[derive(Clone, Copy, PartialEq, Eq, Debug)]
 pub struct Part<'a> {
     pub bytes: &'a [u8],
     pub offset: usize,
     pub content: Record,
 }
 
-// What one asking gives: a record, the end, or the refusal of what stands there.
-#[derive(Clone, Copy, Debug)]
-pub enum Outcome<'a> {
-    Handed(Part<'a>),
-    Ended,
-    Refused(Refusal),
-}
-
 // A schedule that is being read: what is left of it, how many bytes it has in all, and whether its first record is still to come.
-#[derive(Clone, Copy)]
+#[derive(Clone, Copy, PartialEq, Eq, Debug)]
 pub struct Reader<'a> {
     rest: &'a [u8],
     total: usize,
@@ -52,22 +45,18 @@ fn cut(rest: &[u8]) -> Option<(&[u8], &[u8])>
     let [high, low, bytes @ ..] = rest else {
         return None;
     };
-    let len = length_of(*high, *low);
-    if bytes.len() < len {
-        return None;
-    }
-    Some(bytes.split_at(len))
+    bytes.split_at_checked(length_of(*high, *low))
 }
 
 // What a record says, if it may stand there: the first is a setup, and no other is.
-fn content_at(first: bool, bytes: &[u8]) -> Option<Record>
-    ensures { result ≡ content_at first bytes.now }
+fn content_at(first: bool, bytes: &[u8]) -> Result<Record, Refusal>
+    ensures { MatchResult result (λ r. content_at first bytes.now ≡ Some r) (λ e. (content_at first bytes.now ≡ None) × (e ≡ BadRecord)) }
 {
-    let content = decode(bytes)?;
+    let content = Record::try_from(bytes)?;
     if content.is_setup() == first {
-        Some(content)
+        Ok(content)
     } else {
-        None
+        Err(Refusal::BadRecord)
     }
 }
 
@@ -80,12 +69,9 @@ impl<'a> Reader<'a> {
         if too_long(total) {
             return Err(Refusal::ScheduleTooLong);
         }
-        let [version, rest @ ..] = bytes else {
+        let [1, rest @ ..] = bytes else {
             return Err(Refusal::NoVersionByte);
         };
-        if *version != 1 {
-            return Err(Refusal::NoVersionByte);
-        }
         Ok(Reader {
             rest,
             total,
@@ -120,25 +106,21 @@ impl<'a> Reader<'a> {
         self.total.saturating_sub(self.rest.len())
     }
 
-    // The next record, the end, or the refusal of what stands there, which is then given again at each further asking.
-    pub fn next(&mut self) -> Outcome<'a>
+    // The next record, None at the end, or the refusal of what stands there, which is then given again at each further asking.
+    pub fn next(&mut self) -> Result<Option<Part<'a>>, Refusal>
         ensures { Asked self.old result self.new }
     {
         if self.rest.is_empty() {
-            return Outcome::Ended;
+            return Ok(None);
         }
-        let Some((bytes, left)) = cut(self.rest) else {
-            return Outcome::Refused(Refusal::BadRecord);
-        };
-        let Some(content) = content_at(self.first, bytes) else {
-            return Outcome::Refused(Refusal::BadRecord);
-        };
+        let (bytes, left) = cut(self.rest).ok_or(Refusal::BadRecord)?;
+        let content = content_at(self.first, bytes)?;
         let offset = self.offset_before(left.len()).saturating_sub(bytes.len());
         *self = self.moved(left);
-        Outcome::Handed(Part {
+        Ok(Some(Part {
             bytes,
             offset,
             content,
-        })
+        }))
     }
 }

@@ -5,7 +5,7 @@ use replay::opening::answer_opening;
 use replay::replay;
 use schedule::contents::read_whole;
 use schedule::lines::line;
-use schedule::reader::{Outcome, Reader};
+use schedule::reader::Reader;
 use std::alloc::Global;
 use std::process::Abort;
 use std::test::Fail;
@@ -156,10 +156,7 @@ fn a_refusal_is_given_again(rt: HostRuntime) -> Result<(), Fail> {
     let bytes = [1u8, 0, 2, 1, 0];
     let mut reader = Reader::open(&bytes)?;
     for _ in 0..3 {
-        match reader.next() {
-            Outcome::Refused(refusal) => assert_eq!(rt; refusal, Refusal::BadRecord),
-            _ => return Err(Fail::new("a join is no first record")),
-        }
+        assert_eq!(rt; reader.next(), Err(Refusal::BadRecord));
         assert_eq!(rt; reader.offset(), 1);
     }
     Ok(())

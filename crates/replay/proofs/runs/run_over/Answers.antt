@@ -1,5 +1,5 @@
 -- The driver's answer says whether making took the sizes.
-use Rattle.std.proofs.Common.{◌≡◌, ℕ, sym, refl, ◌∙◌, arith}
+use Rattle.std.proofs.Common.{refl, ◌∙◌}
 use Rattle.std.proofs.lemmas.List.{length-map}
 use Rattle.list_cells.specs.Views.{cell_of}
 use Rattle.list_driver.specs.Asks.{ask_of}
@@ -11,17 +11,14 @@ returns-in-Ok g c =
     let scheme = g.S.Scheme in
     let cells = length-map c.args.cells.now cell_of in
     let as_many = length-map c.args.asks.now ask_of ∙ c.requires in
-    record {
-      sizes = sym (accepted scheme.table scheme.strict scheme.acts _ _ _ _ _ _ _ _ _ c.run_calls.ensures.ran refl refl cells as_many c.in-Ok.is);
-      ran = λ _. over scheme.table scheme.strict scheme.acts _ _ _ _ _ _ _ _ _ c.run_calls.ensures.ran refl refl cells as_many c.in-Ok.is;
-    }
+    let ran = c.run_calls.ensures.ran in (
+      accepted scheme.table scheme.strict scheme.acts _ _ _ _ _ _ _ _ _ ran refl refl cells as_many c.in-Ok.is,
+      over scheme.table scheme.strict scheme.acts _ _ _ _ _ _ _ _ _ ran refl refl cells as_many c.in-Ok.is,
+    )
 
 pub returns-in_default : goal.returns-in_default
 returns-in_default g c =
     let scheme = g.S.Scheme in
     let cells = length-map c.args.cells.now cell_of in
     let as_many = length-map c.args.asks.now ask_of ∙ c.requires in
-    record {
-      sizes = sym (refused scheme.table scheme.strict scheme.acts _ _ _ _ _ _ _ _ _ c.run_calls.ensures.ran refl refl cells as_many c.in_default.not-Ok);
-      ran = λ e. let z : ◌≡◌ {A = ℕ} 0 1 = cc in absurd (omega arith);
-    }
+    (refused scheme.table scheme.strict scheme.acts _ _ _ _ _ _ _ _ _ c.run_calls.ensures.ran refl refl cells as_many c.in_default.not-Ok, refl)

@@ -1,6 +1,6 @@
 -- No record, a setup that is refused, and a setup that is accepted.
 use Rattle.std.proofs.Common.{List, ◌∷◌, ◌++◌, Some, map, vec_items, string_bytes, sym, ap, ◌∙◌, append-nil, subst}
-use Rattle.std.proofs.lemmas.Result.{IfOk-weaker}
+use Rattle.std.proofs.lemmas.Result.{IfOk-weaker, MatchResult-at_ok, MatchResult-at_err}
 use Rattle.basis.specs.declared.answer.Answer.TheVariants.{Ok, Refused}
 use Rattle.basis.specs.declared.refusal.Refusal.TheVariants.{WrongSizes}
 use Rattle.keys.specs.declared.sector.Sector.{Sector}
@@ -9,7 +9,7 @@ use Rattle.list_driver.specs.Asks.{ask_of}
 use Rattle.schedule.specs.Lines.{line_of, lines_from}
 use Rattle.replay.specs.Runs.{Answered}
 use Rattle.replay.specs.Views.{refused_by}
-use Rattle.replay.proofs.Answering.{told_none, told_other, told_refused, told_accepted, at_none, at_some}
+use Rattle.replay.proofs.Answering.{told_none, told_other, told_refused, told_accepted}
 use Rattle.replay.proofs.text.text_of.Goals as goal
 
 pub returns-in_default : goal.returns-in_default
@@ -21,26 +21,25 @@ pub returns-in_default-setup : goal.returns-in_default-setup
 returns-in_default-setup c =
     told_other c.args.calls.setup c.in-Some.setup (map ask_of (vec_items c.args.calls.asks)) (refused_by c.args.calls.stop) _ c.in-Some.is c.in_default-setup.not-Setup c.new.ensures.bytes
 
-pub returns-in-None : goal.returns-in-None
-unfolding lines_from
-returns-in-None c =
-    let asks = map ask_of (vec_items c.args.calls.asks) in
-    let s = c.in-Setup in
-    let is = c.in-Some.is ∙ ap Some s.is in
-    let sizes = at_none c.in_ok-answers.answers _ _ c.in-None.is c.in_ok-answers.ensures in
-    IfOk-weaker c.text_of_refused.result _ _
-    (λ text e. told_refused c.args.calls.setup s.scheme s.cells s.window is asks (refused_by c.args.calls.stop) (string_bytes text) sizes (e ∙ sym (append-nil (line_of 1 (Refused WrongSizes)))))
-    c.text_of_refused.ensures
-
-pub returns-in-Some-answers : goal.returns-in-Some-answers
-returns-in-Some-answers c =
+pub returns-in-Ok : goal.returns-in-Ok
+returns-in-Ok c =
     let asks = map ask_of (vec_items c.args.calls.asks) in
     let stop = refused_by c.args.calls.stop in
     let s = c.in-Setup in
     let is = c.in-Some.is ∙ ap Some s.is in
-    let answers = vec_items c.in-Some-answers.answers in
-    let answered = at_some c.in_ok-answers.answers c.in-Some-answers.answers _ _ c.in-Some-answers.is c.in_ok-answers.ensures in
-    let asked = subst (λ (l : List (Ask Sector)). Answered s.scheme s.cells s.window l answers) (ap (map ask_of) c.as_slice.ensures.value) answered in
+    let answers = vec_items c.in-Ok.answers in
+    let asked = subst (λ (l : List (Ask Sector)). Answered s.scheme s.cells s.window l answers) (ap (map ask_of) c.as_slice.ensures.value) (MatchResult-at_ok _ _ c.in-Ok.answers c.in-Ok.is c.in_ok-answers.ensures) in
     IfOk-weaker c.text_of_answers.result _ _
-    (λ text e. told_accepted c.args.calls.setup s.scheme s.cells s.window is asks stop (string_bytes text) answers asked (e ∙ ap (λ l. lines_from 1 (Ok ∷ (l ++ stop))) c.as_slice-in-Some-answers.ensures.value))
+    (λ text e. told_accepted c.args.calls.setup s.scheme s.cells s.window is asks stop (string_bytes text) answers asked (e ∙ ap (λ l. lines_from 1 (Ok ∷ (l ++ stop))) c.as_slice-in-Ok.ensures.value))
     c.text_of_answers.ensures
+
+pub returns-in-Err : goal.returns-in-Err
+unfolding lines_from
+returns-in-Err c =
+    let asks = map ask_of (vec_items c.args.calls.asks) in
+    let s = c.in-Setup in
+    let is = c.in-Some.is ∙ ap Some s.is in
+    let sizes = MatchResult-at_err _ _ c.in-Err.refusal c.in-Err.is c.in_ok-answers.ensures in
+    IfOk-weaker c.line.result _ _
+    (λ text e. told_refused c.args.calls.setup s.scheme s.cells s.window is asks (refused_by c.args.calls.stop) (string_bytes text) sizes.0 (e ∙ ap (λ r. line_of 1 (Refused r)) sizes.1 ∙ sym (append-nil (line_of 1 (Refused WrongSizes)))))
+    c.line.ensures

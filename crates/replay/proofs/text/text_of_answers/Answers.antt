@@ -13,6 +13,6 @@ returns c =
     let stop = refused_by c.args.stop in
     let first = line_of 1 Ok in
     c.in_ok-push_stop.ensures
-    ∙ ap (λ t. t ++ lines_from (length answers + 2) stop) (c.in_ok-push_lines.ensures.ok ∙ ap (λ t. t ++ lines_from 2 answers) (c.in_ok-push_accepted.ensures ∙ ap (λ t. t ++ first) c.in_ok-text.ensures.bytes))
+    ∙ ap (λ t. t ++ lines_from (length answers + 2) stop) (c.in_ok-push_lines.ensures.ok ∙ ap (λ t. t ++ lines_from 2 answers) (c.in_ok-push_line.ensures.ok ∙ ap (λ t. t ++ first) c.in_ok-text.ensures.bytes))
     ∙ append_assoc first (lines_from 2 answers) (lines_from (length answers + 2) stop)
     ∙ ap (λ t. first ++ t) (sym (lines_join 2 answers stop (length answers + 2) (omega arith)))

@@ -1,10 +1,10 @@
 -- Each turn hands out one record more, and leaves fewer bytes.
-use Rattle.std.proofs.Common.{map, Some, vec_items, sym, ap, ◌∙◌, subst, arith}
+use Rattle.std.proofs.Common.{map, Ok, vec_items, sym, ap, ◌∙◌, subst, arith, rules}
 use Rattle.std.proofs.lemmas.List.{map_push}
-use Rattle.schedule.specs.Schedules.{Stops}
-use Rattle.schedule.specs.Whole.{seen, stop_number}
+use Rattle.schedule.specs.Whole.{seen}
 use Rattle.schedule.proofs.Askings.{next_handed}
-use Rattle.schedule.proofs.Sofar.{Sofar, bytes_typed, gave, gave_end, gave_refusal, sofar_none, sofar_more, holds_all}
+use Rattle.schedule.proofs.Sofar.{Sofar, Stopped, bytes_typed, gave, stopped_end, stopped_refusal, sofar_none, sofar_more, holds_all}
+use Rattle.schedule.proofs.contents.read_whole.Goals.{in-Ok-None, in-Err-next}
 use Rattle.schedule.proofs.contents.read_whole.Goals as goal
 
 pub loop-part-init : goal.loop-part-init
@@ -15,20 +15,23 @@ loop-part-init c =
 pub loop-part-smaller : goal.loop-part-smaller
 loop-part-smaller c =
     let reader = c.loop-part.reader in
-    omega (arith, (next_handed reader.first reader.total reader.rest.now _ _ (gave reader c.in-Handed.part c.next.new.self c.in-Handed.ensures).is).shorter)
+    let g = gave reader c.in-Ok-Some.part c.next.new.self (search rules) c.next.ensures in
+    omega (arith, (next_handed reader.first reader.total reader.rest.now _ _ g.is).shorter)
 
 pub loop-part-preserved : goal.loop-part-preserved
 loop-part-preserved c =
     let items = vec_items c.loop-part.parts in
-    subst (λ es. Sofar c.args.bytes.now es c.next.new.self) (sym (ap (map seen) c.in_ok-push-in-Handed.ensures.items ∙ map_push seen items c.in-Handed.part))
-    (sofar_more c.args.bytes.now (map seen items) c.loop-part.reader c.in-Handed.part c.next.new.self c.loop-part.invariant (gave c.loop-part.reader c.in-Handed.part c.next.new.self c.in-Handed.ensures))
+    let g = gave c.loop-part.reader c.in-Ok-Some.part c.next.new.self (search rules) c.next.ensures in
+    subst (λ es. Sofar c.args.bytes.now es c.next.new.self) (sym (ap (map seen) c.in_ok-push-in-Ok-Some.ensures.items ∙ map_push seen items c.in-Ok-Some.part))
+    (sofar_more c.args.bytes.now (map seen items) c.loop-part.reader c.in-Ok-Some.part c.next.new.self c.loop-part.invariant g)
 
-pub returns-in-Ended : goal.returns-in-Ended
-returns-in-Ended c =
-    let is = gave_end c.loop-part.reader c.next.new.self c.in-Ended.ensures in
-    holds_all c.args.bytes.now _ c.loop-part.reader c.in-Ok.ensures.0 (bytes_typed c.args.bytes.now c.type_inv.bytes) c.loop-part.invariant (subst Stops (sym is) tt) (sym (ap stop_number is)) c.offset-stop.ensures
-
-pub returns-in-Refused : goal.returns-in-Refused
-returns-in-Refused c =
-    let is = gave_refusal c.loop-part.reader c.in-Refused.refusal c.next.new.self c.in-Refused.ensures in
-    holds_all c.args.bytes.now _ c.loop-part.reader c.in-Ok.ensures.0 (bytes_typed c.args.bytes.now c.type_inv.bytes) c.loop-part.invariant (subst Stops (sym is.0) tt) (ap Some is.1 ∙ sym (ap stop_number is.0)) c.offset-stop.ensures
+pub returns : goal.returns
+returns c =
+    let reader = c.loop-part.reader in
+    let after = c.next.new.self in
+    let stopped : Stopped reader c.match-next.refusal after =
+    elim c.match-next.branch [
+      | in-Ok-None w ↦ stopped_end reader after (w.in-Ok-None.is ∙ ap Ok w.in-Ok-None.field-0-is) w.refusal-is c.next.ensures
+      | in-Err-next w ↦ stopped_refusal reader w.in-Err-next.refusal after w.in-Err-next.is w.refusal-is c.next.ensures
+    ] in
+    holds_all c.args.bytes.now _ reader after c.in-Ok.ensures.0 (bytes_typed c.args.bytes.now c.type_inv.bytes) c.loop-part.invariant stopped c.offset.ensures
