@@ -21,9 +21,8 @@ fn main(rt: HostRuntime) -> io::Result<()> {
     match contents.refusal {
         None => println!(rt; "the end, at offset {stop}"),
         Some(refusal) => {
-            let number = refusal.number();
-            let word = refusal.word();
-            println!(rt; "refused {number} ({word}), at offset {stop}")
+            let number = u8::from(refusal);
+            println!(rt; "refused {number} ({refusal}), at offset {stop}")
         }
     }
 }

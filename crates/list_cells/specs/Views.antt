@@ -1,5 +1,5 @@
 -- What lent cells and anchor hold, as the definitions of one call have it. Assumes nothing.
-use Rattle.std.specs.Prelude.{◌≡◌, List, map, Option}
+use Rattle.std.specs.Prelude.{◌≡◌, List, map, Option, None, Some}
 use Rattle.std.specs.Borrow.{Bor}
 use Rattle.std.specs.Option.{option_map}
 use Rattle.marks.specs.Marks.{numbered}
@@ -17,12 +17,12 @@ cell_of c = call.cell c.key (place_named c.link.number) c.listed
 abbrev pub found_of : {K : Type 0} → Option (Bor (declared.Cell K)) → Option (call.Cell K)
 found_of o = option_map (λ b. cell_of b.now) o
 
--- where a walk ended, by numbers
-abbrev pub met_of : declared-met.Met → call.Met
-met_of variant.Bad = call.bad
-met_of (variant.Passed p l) = call.passed p.number (numbered l)
-met_of (variant.Present lead p l) = call.present (numbered lead) p.number (numbered l)
-met_of (variant.Absent lead l) = call.absent (numbered lead) (numbered l)
+-- where a walk ended, by numbers; none is at a link that leads to no cell or to a free one
+abbrev pub met_of : Option declared-met.Met → call.Met
+met_of None = call.bad
+met_of (Some (variant.Passed p l)) = call.passed p.number (numbered l)
+met_of (Some (variant.Present lead p l)) = call.present (numbered lead) p.number (numbered l)
+met_of (Some (variant.Absent lead l)) = call.absent (numbered lead) (numbered l)
 
 -- the anchor, with its links by number
 abbrev pub anchor_of : declared-anchor.Anchor → call.Anchor

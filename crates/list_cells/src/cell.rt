@@ -21,8 +21,11 @@ impl<K: Key> Cell<K> {
     pub fn new(key: K, link: Option<Place>, listed: bool) -> Cell<K>
         ensures { cell_of result ≡ cell key (numbered link) listed }
     {
-        let link = Link::new(link);
-        Cell { key, link, listed }
+        Cell {
+            key,
+            link: Link::from(link),
+            listed,
+        }
     }
 }
 

@@ -15,12 +15,12 @@ pub struct Link {
     ghost ok: { number ≤ 1008 },
 }
 
-impl Link {
-    // The link to a place, or the end.
+// The link to a place, or the end.
+impl From<Option<Place>> for Link {
+    ghost from_gives = { λ place link. place_named link.number ≡ numbered place };
+
     #[tactic(auto, using(crate::proofs::Links::named_there, crate::proofs::Links::named_end))]
-    pub fn new(place: Option<Place>) -> Link
-        ensures { place_named result.number ≡ numbered place }
-    {
+    fn from(place: Option<Place>) -> Link {
         match place {
             None => Link { number: END },
             Some(place) => Link {
@@ -28,15 +28,14 @@ impl Link {
             },
         }
     }
+}
 
+impl Link {
     // The place that this link leads to, if it is not the end.
     #[tactic(auto, using(crate::proofs::Links::named_there, crate::proofs::Links::named_end))]
     pub fn place(self) -> Option<Place>
         ensures { numbered result ≡ place_named self.number }
     {
-        match Place::try_from(self.number) {
-            Ok(place) => Some(place),
-            Err(_) => None,
-        }
+        Place::try_from(self.number).ok()
     }
 }

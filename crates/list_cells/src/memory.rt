@@ -5,6 +5,7 @@ ghost use Rattle.list_law.specs.Call.{rewritten, linked, flagged, leading_set, f
 ghost use Rattle.list_cells.specs.Views.{cell_of, lent_memory, SameSizes};
 
 use crate::cell::{Anchor, Cell};
+use crate::link::Link;
 use crate::walk::cell_at;
 use basis::bounded::Place;
 use keys::key::Key;
@@ -24,7 +25,10 @@ fn put_link<K: Key>(cells: &mut [Cell<K>], place: Place, link: Option<Place>)
     ensures { map cell_of cells.new ≡ rewritten (map cell_of cells.old) place.number (linked (numbered link)) }
 {
     if let Some(cell) = cell_at(cells, place) {
-        let linked = Cell::new(cell.key, link, cell.listed);
+        let linked = Cell {
+            link: Link::from(link),
+            ..*cell
+        };
         store(cells, place, linked);
     }
 }
@@ -34,9 +38,8 @@ fn put_flag<K: Key>(cells: &mut [Cell<K>], place: Place, listed: bool)
     ensures { map cell_of cells.new ≡ rewritten (map cell_of cells.old) place.number (flagged listed) }
 {
     if let Some(cell) = cell_at(cells, place) {
-        let key = cell.key;
-        let link = cell.link;
-        store(cells, place, Cell { key, link, listed });
+        let flagged = Cell { listed, ..*cell };
+        store(cells, place, flagged);
     }
 }
 

@@ -11,11 +11,9 @@ use crate::link::Link;
 use basis::bounded::Place;
 use keys::key::Key;
 
-// What a link leads to, for a window on its way to a target.
-#[derive(Clone, Copy)]
+// What a link leads to, for a window on its way to a target. Where it leads to no cell, or to a free one, a walk gives none of these.
+#[derive(Clone, Copy, PartialEq, Eq, Debug)]
 pub enum Met {
-    // No cell, or a free one.
-    Bad,
     // A cell whose key is below the target.
     Passed {
         place: Place,
@@ -34,53 +32,44 @@ pub enum Met {
     },
 }
 
-// The cell of that number, if there is one.
-fn cell_numbered<K: Key>(cells: &[Cell<K>], at: usize) -> Option<&Cell<K>>
-    ensures { found_of result ≡ slice_get (map cell_of cells.now) at }
-{
-    if at < cells.len() {
-        Some(&cells[at])
-    } else {
-        None
-    }
-}
-
 // The cell at a place, if there is one.
 pub fn cell_at<K: Key>(cells: &[Cell<K>], place: Place) -> Option<&Cell<K>>
     ensures { found_of result ≡ slice_get (map cell_of cells.now) place.number }
 {
-    cell_numbered(cells, place.index())
+    cells.get(place.index())
 }
 
 // What the cell at a place is to a walk that was led there.
-fn judge<K: Key>(cell: &Cell<K>, target: K, lead: Option<Place>, place: Place) -> Met
+fn judge<K: Key>(cell: &Cell<K>, target: K, lead: Option<Place>, place: Place) -> Option<Met>
     ensures { met_of result ≡ met K.Key.below target (numbered lead) place.number (Some (cell_of cell.now)) }
 {
     let link = cell.link.place();
     if !cell.listed {
-        return Met::Bad;
+        return None;
     }
     if cell.key.is_below(target) {
-        return Met::Passed { place, link };
+        return Some(Met::Passed { place, link });
     }
     if target.is_below(cell.key) {
         let link = Some(place);
-        return Met::Absent { lead, link };
+        return Some(Met::Absent { lead, link });
     }
-    Met::Present { lead, place, link }
+    Some(Met::Present { lead, place, link })
 }
 
 // One link followed.
-fn follow<K: Key>(cells: &[Cell<K>], target: K, lead: Option<Place>, link: Option<Place>) -> Met
+fn follow<K: Key>(
+    cells: &[Cell<K>],
+    target: K,
+    lead: Option<Place>,
+    link: Option<Place>,
+) -> Option<Met>
     ensures { met_of result ≡ look K.Key.below (map cell_of cells.now) target (numbered lead) (numbered link) }
 {
-    match link {
-        None => Met::Absent { lead, link },
-        Some(place) => match cell_at(cells, place) {
-            None => Met::Bad,
-            Some(cell) => judge(cell, target, lead, place),
-        },
-    }
+    let Some(place) = link else {
+        return Some(Met::Absent { lead, link });
+    };
+    judge(cell_at(cells, place)?, target, lead, place)
 }
 
 // Whether a walk to the target goes on behind this cell: it is listed, and its key is below the target.
@@ -98,18 +87,16 @@ fn walk_links<K: Key>(
     room: u8,
     lead: Option<Place>,
     link: Link,
-) -> Met
+) -> Option<Met>
     ensures { met_of result ≡ walk K.Key.below (map cell_of cells.now) target room (numbered lead) (place_named link.number) }
 {
     let mut lead = lead;
     let mut link = link;
     for _passed in 0..room {
         let Some(place) = link.place() else {
-            return Met::Absent { lead, link: None };
+            return Some(Met::Absent { lead, link: None });
         };
-        let Some(cell) = cell_at(cells, place) else {
-            return Met::Bad;
-        };
+        let cell = cell_at(cells, place)?;
         if !passes(cell, target) {
             return judge(cell, target, lead, place);
         }
@@ -127,20 +114,16 @@ pub fn walk_from<K: Key>(
     target: K,
     room: u8,
     mark: Option<Place>,
-) -> Met
+) -> Option<Met>
     ensures { met_of result ≡ walked K.Key.below (map cell_of cells.now) (numbered head) target room (numbered mark) }
 {
     let Some(place) = mark else {
-        return walk_links(cells, target, room, None, Link::new(head));
+        return walk_links(cells, target, room, None, Link::from(head));
     };
-    match cell_at(cells, place) {
-        None => Met::Bad,
-        Some(cell) => {
-            if cell.listed {
-                walk_links(cells, target, room, mark, cell.link)
-            } else {
-                Met::Bad
-            }
-        }
+    let cell = cell_at(cells, place)?;
+    if cell.listed {
+        walk_links(cells, target, room, mark, cell.link)
+    } else {
+        None
     }
 }

@@ -75,7 +75,7 @@ fn push_refusal(text: &mut String, refusal: Refusal) -> Result<(), AllocError>
 {
     let mut digits = Buffer::new();
     text.push_str(" refused ")?;
-    text.push_str(digits.format(refusal.number()))?;
+    text.push_str(digits.format(u8::from(refusal)))?;
     text.push_str("\n")
 }
 

@@ -36,8 +36,7 @@ fn main(rt: HostRuntime) -> io::Result<()> {
             println!(rt; "both slips were given back")
         }
         Err(refusal) => {
-            let word = refusal.word();
-            println!(rt; "not begun: {word}")
+            println!(rt; "not begun: {refusal}")
         }
     }
 }

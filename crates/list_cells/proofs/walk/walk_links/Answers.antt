@@ -1,9 +1,9 @@
 -- Each turn passes one cell more; where a cell is not passed, the walk ends.
-use Rattle.std.proofs.Common.{◌≡◌, ℕ, Some, None, Option, map, sym, ap, ◌∙◌, arith}
+use Rattle.std.proofs.Common.{◌≡◌, ℕ, Some, None, Option, map, rules, sym, ap, ◌∙◌, arith}
 use Rattle.marks.specs.Marks.{numbered}
 use Rattle.list_law.specs.Call.{look, met, bad}
 use Rattle.list_cells.specs.Links.{place_named}
-use Rattle.list_cells.specs.Views.{cell_of}
+use Rattle.list_cells.specs.Views.{cell_of, met_of}
 use Rattle.list_cells.proofs.Walks.{walk_on, walk_ends, walk_last, passed_here, ends_here}
 use Rattle.list_cells.proofs.walk.walk_links.Goals as goal
 
@@ -13,12 +13,12 @@ loop-passed-preserved g c =
     let cells = map cell_of c.args.cells.now in
     let l = c.loop-passed in
     let x = c.args.target in
-    let cell = c.in-Some-cell_at.cell in
+    let cell = c.in_ok-cell.cell in
     let place = c.in-Some.place.number in
     let named : ◌≡◌ {A = Option ℕ} (Some place) (place_named l.link.number) = sym (ap numbered c.in-Some.is) ∙ c.place.ensures in
     let lead = numbered l.lead in
     walk_on below cells x c.args.room l._passed lead (place_named l.link.number) place (place_named cell.now.link.number) c.loop-passed-test.true
-    (passed_here below cells x lead place (cell_of cell.now) c.in-Some-cell_at.ensures (sym c.if-not-passes.ensures) ∙ ap (look below cells x lead) named)
+    (passed_here below cells x lead place (cell_of cell.now) c.in_ok-cell.ensures (sym c.if-not-passes.ensures) ∙ ap (look below cells x lead) named)
     ∙ l.invariant
 
 pub returns-in_default : goal.returns-in_default
@@ -33,17 +33,19 @@ returns-in_default g c =
     (ap (look below cells x (numbered l.lead)) named)
     ∙ l.invariant
 
-pub returns-in_default-cell_at : goal.returns-in_default-cell_at
-returns-in_default-cell_at g c =
+pub returns-in_err-cell : goal.returns-in_err-cell
+returns-in_err-cell g c =
     let below = g.K.Key.below in
     let cells = map cell_of c.args.cells.now in
     let l = c.loop-passed in
     let x = c.args.target in
     let place = c.in-Some.place.number in
     let named : ◌≡◌ {A = Option ℕ} (Some place) (place_named l.link.number) = sym (ap numbered c.in-Some.is) ∙ c.place.ensures in
-    walk_ends below cells x c.args.room l._passed (numbered l.lead) (place_named l.link.number) bad c.loop-passed-test.true
+    let none : c.from_residual.result ≡ None = search rules in
+    ap met_of none
+    ∙ walk_ends below cells x c.args.room l._passed (numbered l.lead) (place_named l.link.number) bad c.loop-passed-test.true
     (λ p k e. let z : ◌≡◌ {A = ℕ} 0 1 = cc in absurd (omega arith))
-    (ap (met below x (numbered l.lead) place) c.in_default-cell_at.ensures ∙ ap (look below cells x (numbered l.lead)) named)
+    (ap (met below x (numbered l.lead) place) c.in_err-cell.ensures ∙ ap (look below cells x (numbered l.lead)) named)
     ∙ l.invariant
 
 pub returns-then-not-passes : goal.returns-then-not-passes
@@ -52,10 +54,10 @@ returns-then-not-passes g c =
     let cells = map cell_of c.args.cells.now in
     let l = c.loop-passed in
     let x = c.args.target in
-    let cell = c.in-Some-cell_at.cell in
+    let cell = c.in_ok-cell.cell in
     let place = c.in-Some.place.number in
     let named : ◌≡◌ {A = Option ℕ} (Some place) (place_named l.link.number) = sym (ap numbered c.in-Some.is) ∙ c.place.ensures in
-    let found = c.in-Some-cell_at.ensures in
+    let found = c.in_ok-cell.ensures in
     let judged = c.judge.ensures ∙ ap (met below x (numbered l.lead) place) found in
     walk_ends below cells x c.args.room l._passed (numbered l.lead) (place_named l.link.number) _ c.loop-passed-test.true
     (λ p k e. ends_here below cells x (numbered l.lead) place (cell_of cell.now) found (sym c.if-not-passes.ensures) p k (sym judged ∙ e))
