@@ -1,5 +1,5 @@
 // One call: the refusals that look at no row, and then the inner part, under the raised mask.
-ghost use Rattle.std.specs.Prelude.{◌≡◌, true, false, map, length, Some, None, MatchResult, ◌==◌, nat_lt};
+ghost use Rattle.std.specs.Prelude.{◌≡◌, ◌&&◌, map, length, Some, None, MatchResult, ◌==◌, nat_lt};
 ghost use Rattle.ledger.specs.Tests.{first};
 ghost use Rattle.list_law.specs.Call.{sizes_fit, refusals, Did};
 ghost use Rattle.list_law.specs.Continued.{Continues};
@@ -14,35 +14,18 @@ use basis::mask::{Guard, Mask};
 use basis::refusal::Refusal;
 use basis::seat::Seat;
 use keys::key::Key;
-use list_cells::cell::{Anchor, Cell};
 use list_window::index::Index;
-use list_window::row::Row;
+use list_window::sizes::sizes_fit;
 use list_window::turn::Request;
 use marks::scheme::Scheme;
 
-// The seat of that number, or the refusal of a number out of range.
-fn seat_of(seat: u8) -> Result<Seat, Refusal>
-    ensures { MatchResult result (λ t. (t.number ≡ seat) × (nat_lt seat 16 ≡ true)) (λ e. (nat_lt seat 16 ≡ false) × (e ≡ Refusal.OutOfRange)) }
+// The sizes of what is lent are right: those that making takes, and as many cells as the anchor has it.
+fn sizes_right<K: Key, S: Scheme>(index: &Index<'_, K, S>) -> bool
+    ensures { result ≡ (sizes_fit (map cell_of index.now.cells.now) (anchor_of index.now.anchor.now) && (length (map row_of index.now.rows.now) == 16)) }
 {
-    Seat::new(seat)
-}
-
-// The sizes of cells and anchor are right.
-fn cells_fit<K: Key>(cells: &[Cell<K>], anchor: &Anchor) -> bool
-    ensures { result ≡ sizes_fit (map cell_of cells.now) (anchor_of anchor.now) }
-{
-    let count = cells.len();
-    (1 <= count)
-        & (count <= 1008)
-        & (count == anchor.count as usize)
-        & (1 <= anchor.window)
-        & (anchor.window <= 64)
-}
-
-fn rows_fit<K: Key>(rows: &[Row<K>]) -> bool
-    ensures { result ≡ (length (map row_of rows.now) == 16) }
-{
-    rows.len() == 16
+    let count = index.cells.len();
+    (count == index.anchor.count as usize)
+        & sizes_fit(count, index.rows.len(), index.anchor.window)
 }
 
 fn level_fits(level: u8) -> bool
@@ -60,11 +43,8 @@ fn admit<K: Key, S: Scheme>(
 ) -> Result<Seat, Refusal>
     ensures { MatchResult result (λ t. (t.number ≡ seat) × (first (refusals (lent_state index.now) (call_on index.now (what_of request) seat level)) ≡ None)) (λ e. first (refusals (lent_state index.now) (call_on index.now (what_of request) seat level)) ≡ Some e) }
 {
-    let seat = seat_of(seat)?;
-    if !cells_fit(index.cells, index.anchor) {
-        return Err(Refusal::WrongSizes);
-    }
-    if !rows_fit(index.rows) {
+    let seat = Seat::new(seat)?;
+    if !sizes_right(index) {
         return Err(Refusal::WrongSizes);
     }
     if !level_fits(level) {

@@ -2,3 +2,4 @@ pub mod Rows
 pub mod Turns
 pub mod Applied
 pub mod Lent
+pub mod Settled

@@ -5,5 +5,6 @@ pub mod index;
 mod perform;
 pub mod row;
 mod seats;
+pub mod sizes;
 pub mod turn;
 mod window;
