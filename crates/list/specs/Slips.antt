@@ -1,17 +1,10 @@
--- The answers that the results of a join and of a leave by slip stand for, and what it is to hold a seat. Assumes nothing.
+-- The answer that the result of a leave by slip stands for, and what it is to hold a seat. Assumes nothing.
 use Rattle.std.specs.Prelude.{◌≡◌, ℕ, ◌<◌, true, ◌≢◌, length, Result}
 use Rattle.std.specs.declared.result.Result.TheVariants as result
-use Rattle.basis.specs.declared.refusal.Refusal.{Refusal}
 use Rattle.basis.specs.declared.answer.Answer.{Answer}
 use Rattle.basis.specs.declared.answer.Answer.TheVariants.{Ok, Refused}
-use Rattle.list.specs.declared.slip.Slip.{Slip}
 use Rattle.list.specs.declared.slip.Kept.{Kept}
 use Rattle.list_law.specs.Call.{State, away, sizes_fit, row_at}
-
--- ok with a slip, or a refusal
-abbrev pub joined : Result Slip Refusal → Answer
-joined (result.Ok slip) = Ok
-joined (result.Err refusal) = Refused refusal
 
 -- ok, or a refusal with the slip beside it
 abbrev pub left : {X : Type 0} → Result X Kept → Answer

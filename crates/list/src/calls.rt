@@ -1,107 +1,116 @@
 // The five calls, by plain seat number.
-ghost use Rattle.std.specs.Prelude.{◌≡◌};
+ghost use Rattle.std.specs.Prelude.{◌≡◌, false};
 ghost use Rattle.list_window.specs.Turns.{what_of};
+ghost use Rattle.list_window.specs.Lent.{lent_state, SameLent};
+ghost use Rattle.list_window.specs.Settled.{settled};
 ghost use Rattle.list_law.specs.Call.{Did};
 ghost use Rattle.list_law.specs.Continued.{Continues};
-ghost use Rattle.list.specs.Calls.{call_of};
-ghost use Rattle.list_window.specs.Applied.{state_of};
+ghost use Rattle.list.specs.Calls.{call_on, is_step};
 
 use crate::call::make_call;
 use basis::answer::Answer;
 use basis::kind::Kind;
 use basis::mask::Mask;
+use basis::refusal::Refusal;
 use keys::key::Key;
-use list_cells::cell::{Anchor, Cell};
-use list_window::row::Row;
+use list_window::index::Index;
 use list_window::turn::Request;
 use marks::scheme::Scheme;
 
-// A seat that is away becomes idle.
-pub fn join<K: Key, S: Scheme>(
-    cells: &mut [Cell<K>],
-    rows: &mut [Row<K>],
-    anchor: &mut Anchor,
-    scheme: &mut S,
+// The answer that a result stands for.
+pub fn answer_of(told: Result<(), Refusal>) -> Answer
+    ensures { result ≡ settled told }
+{
+    match told {
+        Ok(()) => Answer::Ok,
+        Err(refusal) => Answer::Refused(refusal),
+    }
+}
+
+// Any call but a step, which is accepted or refused.
+fn settle<K: Key, S: Scheme>(
+    index: &mut Index<'_, K, S>,
     mask: &mut Mask,
     seat: u8,
-) -> Answer
-    ensures did { Did K.Key.below S.Scheme.table S.Scheme.strict S.Scheme.acts (state_of cells.old rows.old anchor.old scheme.old) (call_of (what_of Request.Join) seat mask.old.level cells.old rows.old) result (state_of cells.new rows.new anchor.new scheme.new) }
+    request: Request<K>,
+) -> Result<(), Refusal>
+    requires { is_step (what_of request) ≡ false }
+    ensures did { Did K.Key.below S.Scheme.table S.Scheme.strict S.Scheme.acts (lent_state index.old) (call_on index.old (what_of request) seat mask.old.level) (settled result) (lent_state index.new) }
     ensures level { mask.new.level ≡ mask.old.level }
-    ensures runs { Continues K.Key.below S.Scheme.table S.Scheme.strict S.Scheme.acts (state_of cells.old rows.old anchor.old scheme.old) (call_of (what_of Request.Join) seat mask.old.level cells.old rows.old) result (state_of cells.new rows.new anchor.new scheme.new) }
+    ensures runs { Continues K.Key.below S.Scheme.table S.Scheme.strict S.Scheme.acts (lent_state index.old) (call_on index.old (what_of request) seat mask.old.level) (settled result) (lent_state index.new) }
+    ensures same { SameLent index.old index.new }
 {
-    make_call(cells, rows, anchor, scheme, mask, seat, Request::Join)
+    match make_call(index, mask, seat, request) {
+        Answer::Ok => Ok(()),
+        Answer::Refused(refusal) => Err(refusal),
+        _ => unreachable(),
+    }
+}
+
+// A seat that is away becomes idle.
+pub fn join<K: Key, S: Scheme>(
+    index: &mut Index<'_, K, S>,
+    mask: &mut Mask,
+    seat: u8,
+) -> Result<(), Refusal>
+    ensures did { Did K.Key.below S.Scheme.table S.Scheme.strict S.Scheme.acts (lent_state index.old) (call_on index.old (what_of Request.Join) seat mask.old.level) (settled result) (lent_state index.new) }
+    ensures level { mask.new.level ≡ mask.old.level }
+    ensures runs { Continues K.Key.below S.Scheme.table S.Scheme.strict S.Scheme.acts (lent_state index.old) (call_on index.old (what_of Request.Join) seat mask.old.level) (settled result) (lent_state index.new) }
+    ensures same { SameLent index.old index.new }
+{
+    settle(index, mask, seat, Request::Join)
 }
 
 // A seat becomes away, and its mark is released.
 pub fn leave<K: Key, S: Scheme>(
-    cells: &mut [Cell<K>],
-    rows: &mut [Row<K>],
-    anchor: &mut Anchor,
-    scheme: &mut S,
+    index: &mut Index<'_, K, S>,
     mask: &mut Mask,
     seat: u8,
-) -> Answer
-    ensures did { Did K.Key.below S.Scheme.table S.Scheme.strict S.Scheme.acts (state_of cells.old rows.old anchor.old scheme.old) (call_of (what_of Request.Leave) seat mask.old.level cells.old rows.old) result (state_of cells.new rows.new anchor.new scheme.new) }
+) -> Result<(), Refusal>
+    ensures did { Did K.Key.below S.Scheme.table S.Scheme.strict S.Scheme.acts (lent_state index.old) (call_on index.old (what_of Request.Leave) seat mask.old.level) (settled result) (lent_state index.new) }
     ensures level { mask.new.level ≡ mask.old.level }
-    ensures runs { Continues K.Key.below S.Scheme.table S.Scheme.strict S.Scheme.acts (state_of cells.old rows.old anchor.old scheme.old) (call_of (what_of Request.Leave) seat mask.old.level cells.old rows.old) result (state_of cells.new rows.new anchor.new scheme.new) }
+    ensures runs { Continues K.Key.below S.Scheme.table S.Scheme.strict S.Scheme.acts (lent_state index.old) (call_on index.old (what_of Request.Leave) seat mask.old.level) (settled result) (lent_state index.new) }
+    ensures same { SameLent index.old index.new }
 {
-    make_call(cells, rows, anchor, scheme, mask, seat, Request::Leave)
+    settle(index, mask, seat, Request::Leave)
 }
 
 // An idle seat begins an operation on a target.
 pub fn begin<K: Key, S: Scheme>(
-    cells: &mut [Cell<K>],
-    rows: &mut [Row<K>],
-    anchor: &mut Anchor,
-    scheme: &mut S,
+    index: &mut Index<'_, K, S>,
     mask: &mut Mask,
     seat: u8,
     kind: Kind,
     target: K,
-) -> Answer
-    ensures did { Did K.Key.below S.Scheme.table S.Scheme.strict S.Scheme.acts (state_of cells.old rows.old anchor.old scheme.old) (call_of (what_of (Request.Begin kind target)) seat mask.old.level cells.old rows.old) result (state_of cells.new rows.new anchor.new scheme.new) }
+) -> Result<(), Refusal>
+    ensures did { Did K.Key.below S.Scheme.table S.Scheme.strict S.Scheme.acts (lent_state index.old) (call_on index.old (what_of (Request.Begin kind target)) seat mask.old.level) (settled result) (lent_state index.new) }
     ensures level { mask.new.level ≡ mask.old.level }
-    ensures runs { Continues K.Key.below S.Scheme.table S.Scheme.strict S.Scheme.acts (state_of cells.old rows.old anchor.old scheme.old) (call_of (what_of (Request.Begin kind target)) seat mask.old.level cells.old rows.old) result (state_of cells.new rows.new anchor.new scheme.new) }
+    ensures runs { Continues K.Key.below S.Scheme.table S.Scheme.strict S.Scheme.acts (lent_state index.old) (call_on index.old (what_of (Request.Begin kind target)) seat mask.old.level) (settled result) (lent_state index.new) }
+    ensures same { SameLent index.old index.new }
 {
-    make_call(
-        cells,
-        rows,
-        anchor,
-        scheme,
-        mask,
-        seat,
-        Request::Begin { kind, target },
-    )
+    settle(index, mask, seat, Request::Begin { kind, target })
 }
 
 // A running seat runs one window.
-pub fn step<K: Key, S: Scheme>(
-    cells: &mut [Cell<K>],
-    rows: &mut [Row<K>],
-    anchor: &mut Anchor,
-    scheme: &mut S,
-    mask: &mut Mask,
-    seat: u8,
-) -> Answer
-    ensures did { Did K.Key.below S.Scheme.table S.Scheme.strict S.Scheme.acts (state_of cells.old rows.old anchor.old scheme.old) (call_of (what_of Request.Step) seat mask.old.level cells.old rows.old) result (state_of cells.new rows.new anchor.new scheme.new) }
+pub fn step<K: Key, S: Scheme>(index: &mut Index<'_, K, S>, mask: &mut Mask, seat: u8) -> Answer
+    ensures did { Did K.Key.below S.Scheme.table S.Scheme.strict S.Scheme.acts (lent_state index.old) (call_on index.old (what_of Request.Step) seat mask.old.level) result (lent_state index.new) }
     ensures level { mask.new.level ≡ mask.old.level }
-    ensures runs { Continues K.Key.below S.Scheme.table S.Scheme.strict S.Scheme.acts (state_of cells.old rows.old anchor.old scheme.old) (call_of (what_of Request.Step) seat mask.old.level cells.old rows.old) result (state_of cells.new rows.new anchor.new scheme.new) }
+    ensures runs { Continues K.Key.below S.Scheme.table S.Scheme.strict S.Scheme.acts (lent_state index.old) (call_on index.old (what_of Request.Step) seat mask.old.level) result (lent_state index.new) }
+    ensures same { SameLent index.old index.new }
 {
-    make_call(cells, rows, anchor, scheme, mask, seat, Request::Step)
+    make_call(index, mask, seat, Request::Step)
 }
 
 // A running seat drops its operation, and its mark is released.
 pub fn abandon<K: Key, S: Scheme>(
-    cells: &mut [Cell<K>],
-    rows: &mut [Row<K>],
-    anchor: &mut Anchor,
-    scheme: &mut S,
+    index: &mut Index<'_, K, S>,
     mask: &mut Mask,
     seat: u8,
-) -> Answer
-    ensures did { Did K.Key.below S.Scheme.table S.Scheme.strict S.Scheme.acts (state_of cells.old rows.old anchor.old scheme.old) (call_of (what_of Request.Abandon) seat mask.old.level cells.old rows.old) result (state_of cells.new rows.new anchor.new scheme.new) }
+) -> Result<(), Refusal>
+    ensures did { Did K.Key.below S.Scheme.table S.Scheme.strict S.Scheme.acts (lent_state index.old) (call_on index.old (what_of Request.Abandon) seat mask.old.level) (settled result) (lent_state index.new) }
     ensures level { mask.new.level ≡ mask.old.level }
-    ensures runs { Continues K.Key.below S.Scheme.table S.Scheme.strict S.Scheme.acts (state_of cells.old rows.old anchor.old scheme.old) (call_of (what_of Request.Abandon) seat mask.old.level cells.old rows.old) result (state_of cells.new rows.new anchor.new scheme.new) }
+    ensures runs { Continues K.Key.below S.Scheme.table S.Scheme.strict S.Scheme.acts (lent_state index.old) (call_on index.old (what_of Request.Abandon) seat mask.old.level) (settled result) (lent_state index.new) }
+    ensures same { SameLent index.old index.new }
 {
-    make_call(cells, rows, anchor, scheme, mask, seat, Request::Abandon)
+    settle(index, mask, seat, Request::Abandon)
 }

@@ -2,11 +2,12 @@
 // or copied, only join makes one, and only leave takes one.
 ghost use Rattle.std.specs.Prelude.{◌≡◌, IfOk, IfErr};
 ghost use Rattle.list_window.specs.Turns.{what_of};
-ghost use Rattle.list_window.specs.Applied.{state_of};
+ghost use Rattle.list_window.specs.Lent.{lent_state, SameLent};
+ghost use Rattle.list_window.specs.Settled.{settled};
 ghost use Rattle.list_law.specs.Call.{Did};
 ghost use Rattle.list_law.specs.Continued.{Continues};
-ghost use Rattle.list.specs.Calls.{call_of};
-ghost use Rattle.list.specs.Slips.{joined, left};
+ghost use Rattle.list.specs.Calls.{call_on};
+ghost use Rattle.list.specs.Slips.{left};
 
 use crate::calls;
 use basis::answer::Answer;
@@ -14,8 +15,7 @@ use basis::kind::Kind;
 use basis::mask::Mask;
 use basis::refusal::Refusal;
 use keys::key::Key;
-use list_cells::cell::{Anchor, Cell};
-use list_window::row::Row;
+use list_window::index::Index;
 use list_window::turn::Request;
 use marks::scheme::Scheme;
 
@@ -40,97 +40,79 @@ impl Slip {
 
     // Joins the seat, and gives its slip.
     pub fn join<K: Key, S: Scheme>(
-        cells: &mut [Cell<K>],
-        rows: &mut [Row<K>],
-        anchor: &mut Anchor,
-        scheme: &mut S,
+        index: &mut Index<'_, K, S>,
         mask: &mut Mask,
         seat: u8,
     ) -> Result<Slip, Refusal>
-        ensures did { Did K.Key.below S.Scheme.table S.Scheme.strict S.Scheme.acts (state_of cells.old rows.old anchor.old scheme.old) (call_of (what_of Request.Join) seat mask.old.level cells.old rows.old) (joined result) (state_of cells.new rows.new anchor.new scheme.new) }
+        ensures did { Did K.Key.below S.Scheme.table S.Scheme.strict S.Scheme.acts (lent_state index.old) (call_on index.old (what_of Request.Join) seat mask.old.level) (settled result) (lent_state index.new) }
         ensures level { mask.new.level ≡ mask.old.level }
-        ensures runs { Continues K.Key.below S.Scheme.table S.Scheme.strict S.Scheme.acts (state_of cells.old rows.old anchor.old scheme.old) (call_of (what_of Request.Join) seat mask.old.level cells.old rows.old) (joined result) (state_of cells.new rows.new anchor.new scheme.new) }
+        ensures runs { Continues K.Key.below S.Scheme.table S.Scheme.strict S.Scheme.acts (lent_state index.old) (call_on index.old (what_of Request.Join) seat mask.old.level) (settled result) (lent_state index.new) }
+        ensures same { SameLent index.old index.new }
         ensures seat { IfOk result (λ slip. slip.seat ≡ seat) }
     {
-        match calls::join(cells, rows, anchor, scheme, mask, seat) {
-            Answer::Ok => Ok(Slip { seat }),
-            Answer::Refused(refusal) => Err(refusal),
-            _ => unreachable(),
-        }
+        calls::join(index, mask, seat)?;
+        Ok(Slip { seat })
     }
 
     // The seat of the slip begins an operation on a target.
     pub fn begin<K: Key, S: Scheme>(
         &self,
-        cells: &mut [Cell<K>],
-        rows: &mut [Row<K>],
-        anchor: &mut Anchor,
-        scheme: &mut S,
+        index: &mut Index<'_, K, S>,
         mask: &mut Mask,
         kind: Kind,
         target: K,
-    ) -> Answer
-        ensures did { Did K.Key.below S.Scheme.table S.Scheme.strict S.Scheme.acts (state_of cells.old rows.old anchor.old scheme.old) (call_of (what_of (Request.Begin kind target)) self.now.seat mask.old.level cells.old rows.old) result (state_of cells.new rows.new anchor.new scheme.new) }
+    ) -> Result<(), Refusal>
+        ensures did { Did K.Key.below S.Scheme.table S.Scheme.strict S.Scheme.acts (lent_state index.old) (call_on index.old (what_of (Request.Begin kind target)) self.now.seat mask.old.level) (settled result) (lent_state index.new) }
         ensures level { mask.new.level ≡ mask.old.level }
-        ensures runs { Continues K.Key.below S.Scheme.table S.Scheme.strict S.Scheme.acts (state_of cells.old rows.old anchor.old scheme.old) (call_of (what_of (Request.Begin kind target)) self.now.seat mask.old.level cells.old rows.old) result (state_of cells.new rows.new anchor.new scheme.new) }
+        ensures runs { Continues K.Key.below S.Scheme.table S.Scheme.strict S.Scheme.acts (lent_state index.old) (call_on index.old (what_of (Request.Begin kind target)) self.now.seat mask.old.level) (settled result) (lent_state index.new) }
+        ensures same { SameLent index.old index.new }
     {
-        calls::begin(cells, rows, anchor, scheme, mask, self.seat, kind, target)
+        calls::begin(index, mask, self.seat, kind, target)
     }
 
     // The seat of the slip runs one window.
-    pub fn step<K: Key, S: Scheme>(
-        &self,
-        cells: &mut [Cell<K>],
-        rows: &mut [Row<K>],
-        anchor: &mut Anchor,
-        scheme: &mut S,
-        mask: &mut Mask,
-    ) -> Answer
-        ensures did { Did K.Key.below S.Scheme.table S.Scheme.strict S.Scheme.acts (state_of cells.old rows.old anchor.old scheme.old) (call_of (what_of Request.Step) self.now.seat mask.old.level cells.old rows.old) result (state_of cells.new rows.new anchor.new scheme.new) }
+    pub fn step<K: Key, S: Scheme>(&self, index: &mut Index<'_, K, S>, mask: &mut Mask) -> Answer
+        ensures did { Did K.Key.below S.Scheme.table S.Scheme.strict S.Scheme.acts (lent_state index.old) (call_on index.old (what_of Request.Step) self.now.seat mask.old.level) result (lent_state index.new) }
         ensures level { mask.new.level ≡ mask.old.level }
-        ensures runs { Continues K.Key.below S.Scheme.table S.Scheme.strict S.Scheme.acts (state_of cells.old rows.old anchor.old scheme.old) (call_of (what_of Request.Step) self.now.seat mask.old.level cells.old rows.old) result (state_of cells.new rows.new anchor.new scheme.new) }
+        ensures runs { Continues K.Key.below S.Scheme.table S.Scheme.strict S.Scheme.acts (lent_state index.old) (call_on index.old (what_of Request.Step) self.now.seat mask.old.level) result (lent_state index.new) }
+        ensures same { SameLent index.old index.new }
     {
-        calls::step(cells, rows, anchor, scheme, mask, self.seat)
+        calls::step(index, mask, self.seat)
     }
 
     // The seat of the slip drops its operation, and its mark is released.
     pub fn abandon<K: Key, S: Scheme>(
         &self,
-        cells: &mut [Cell<K>],
-        rows: &mut [Row<K>],
-        anchor: &mut Anchor,
-        scheme: &mut S,
+        index: &mut Index<'_, K, S>,
         mask: &mut Mask,
-    ) -> Answer
-        ensures did { Did K.Key.below S.Scheme.table S.Scheme.strict S.Scheme.acts (state_of cells.old rows.old anchor.old scheme.old) (call_of (what_of Request.Abandon) self.now.seat mask.old.level cells.old rows.old) result (state_of cells.new rows.new anchor.new scheme.new) }
+    ) -> Result<(), Refusal>
+        ensures did { Did K.Key.below S.Scheme.table S.Scheme.strict S.Scheme.acts (lent_state index.old) (call_on index.old (what_of Request.Abandon) self.now.seat mask.old.level) (settled result) (lent_state index.new) }
         ensures level { mask.new.level ≡ mask.old.level }
-        ensures runs { Continues K.Key.below S.Scheme.table S.Scheme.strict S.Scheme.acts (state_of cells.old rows.old anchor.old scheme.old) (call_of (what_of Request.Abandon) self.now.seat mask.old.level cells.old rows.old) result (state_of cells.new rows.new anchor.new scheme.new) }
+        ensures runs { Continues K.Key.below S.Scheme.table S.Scheme.strict S.Scheme.acts (lent_state index.old) (call_on index.old (what_of Request.Abandon) self.now.seat mask.old.level) (settled result) (lent_state index.new) }
+        ensures same { SameLent index.old index.new }
     {
-        calls::abandon(cells, rows, anchor, scheme, mask, self.seat)
+        calls::abandon(index, mask, self.seat)
     }
 
     // Leaves the seat and takes the slip, or gives it back with the refusal.
     pub fn leave<K: Key, S: Scheme>(
         self,
-        cells: &mut [Cell<K>],
-        rows: &mut [Row<K>],
-        anchor: &mut Anchor,
-        scheme: &mut S,
+        index: &mut Index<'_, K, S>,
         mask: &mut Mask,
     ) -> Result<(), Kept>
-        ensures did { Did K.Key.below S.Scheme.table S.Scheme.strict S.Scheme.acts (state_of cells.old rows.old anchor.old scheme.old) (call_of (what_of Request.Leave) self.seat mask.old.level cells.old rows.old) (left result) (state_of cells.new rows.new anchor.new scheme.new) }
+        ensures did { Did K.Key.below S.Scheme.table S.Scheme.strict S.Scheme.acts (lent_state index.old) (call_on index.old (what_of Request.Leave) self.seat mask.old.level) (left result) (lent_state index.new) }
         ensures level { mask.new.level ≡ mask.old.level }
-        ensures runs { Continues K.Key.below S.Scheme.table S.Scheme.strict S.Scheme.acts (state_of cells.old rows.old anchor.old scheme.old) (call_of (what_of Request.Leave) self.seat mask.old.level cells.old rows.old) (left result) (state_of cells.new rows.new anchor.new scheme.new) }
+        ensures runs { Continues K.Key.below S.Scheme.table S.Scheme.strict S.Scheme.acts (lent_state index.old) (call_on index.old (what_of Request.Leave) self.seat mask.old.level) (left result) (lent_state index.new) }
+        ensures same { SameLent index.old index.new }
         ensures slip { IfErr result (λ kept. kept.slip ≡ self) }
     {
         let Slip { seat } = self;
-        match calls::leave(cells, rows, anchor, scheme, mask, seat) {
-            Answer::Ok => Ok(()),
-            Answer::Refused(refusal) => Err(Kept {
+        match calls::leave(index, mask, seat) {
+            Ok(()) => Ok(()),
+            Err(refusal) => Err(Kept {
                 refusal,
                 slip: Slip { seat },
             }),
-            _ => unreachable(),
         }
     }
 }

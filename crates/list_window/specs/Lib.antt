@@ -1,3 +1,5 @@
 pub mod Rows
 pub mod Turns
 pub mod Applied
+pub mod Lent
+pub mod Settled

@@ -1,8 +1,10 @@
 // The inner part of a call of the singly linked index: rows, what a call makes of a row, and one window.
 #![tactic(auto)]
 
-pub mod perform;
+pub mod index;
+mod perform;
 pub mod row;
 mod seats;
+pub mod sizes;
 pub mod turn;
 mod window;

@@ -3,20 +3,17 @@ ghost use Rattle.std.specs.Prelude.{◌≡◌, ◌<◌, map, length, slice_set};
 ghost use Rattle.list_law.specs.Call.{row_at};
 ghost use Rattle.list_window.specs.Rows.{row_of, doing_of};
 
-use basis::bounded::Seat;
 use crate::row::{Doing, Row};
+use basis::bounded::Seat;
 use keys::key::Key;
 
 // What a seat is about; a row that is not there is away.
 pub fn row_at<K: Key>(rows: &[Row<K>], seat: Seat) -> Doing<K>
     ensures { doing_of result ≡ row_at (map row_of rows.now) seat.number }
 {
-    let at = seat.index();
-    if at < rows.len() {
-        let row = &rows[at];
-        row.doing
-    } else {
-        Doing::Away
+    match rows.get(seat.index()) {
+        Some(row) => row.doing,
+        None => Doing::Away,
     }
 }
 

@@ -2,10 +2,10 @@
 ghost use Rattle.std.specs.Prelude.{◌≡◌};
 ghost use Rattle.list_law.specs.Call.{turn};
 ghost use Rattle.list_window.specs.Rows.{doing_of};
-ghost use Rattle.list_window.specs.Turns.{what_of, turn_of};
+ghost use Rattle.list_window.specs.Turns.{what_of, turned};
 
-use basis::bounded::Seat;
 use crate::row::Doing;
+use basis::bounded::Seat;
 use basis::kind::Kind;
 use basis::refusal::Refusal;
 use keys::key::Key;
@@ -20,39 +20,42 @@ pub enum Request<K> {
     Abandon,
 }
 
-// What a call makes of a row: a refusal, another row with or without a release of the seat's mark, or a window.
+// What a call that is not refused makes of a row: another row, with or without a release of the seat's mark, or a window.
 #[derive(Clone, Copy)]
 pub enum Turn<K> {
-    Refuses(Refusal),
     Becomes { doing: Doing<K>, releases: bool },
     Runs { kind: Kind, target: K },
 }
 
 // Row and call together.
-pub(crate) fn turn_at<K: Key>(seat: Seat, doing: Doing<K>, request: Request<K>) -> Turn<K>
-    ensures { turn_of seat.number result ≡ turn seat.number (doing_of doing) (what_of request) }
+pub(crate) fn turn_at<K: Key>(
+    seat: Seat,
+    doing: Doing<K>,
+    request: Request<K>,
+) -> Result<Turn<K>, Refusal>
+    ensures { turned seat.number result ≡ turn seat.number (doing_of doing) (what_of request) }
 {
     match (doing, request) {
-        (Doing::Away, Request::Join) => Turn::Becomes {
+        (Doing::Away, Request::Join) => Ok(Turn::Becomes {
             doing: Doing::Idle,
             releases: false,
-        },
-        (Doing::Away, _) => Turn::Refuses(Refusal::Away),
-        (_, Request::Join) => Turn::Refuses(Refusal::NotAway),
-        (_, Request::Leave) => Turn::Becomes {
+        }),
+        (Doing::Away, _) => Err(Refusal::Away),
+        (_, Request::Join) => Err(Refusal::NotAway),
+        (_, Request::Leave) => Ok(Turn::Becomes {
             doing: Doing::Away,
             releases: true,
-        },
-        (Doing::Idle, Request::Begin { kind, target }) => Turn::Becomes {
+        }),
+        (Doing::Idle, Request::Begin { kind, target }) => Ok(Turn::Becomes {
             doing: Doing::Running { kind, target },
             releases: false,
-        },
-        (Doing::Running { .. }, Request::Begin { .. }) => Turn::Refuses(Refusal::AlreadyRunning),
-        (Doing::Idle, _) => Turn::Refuses(Refusal::NotRunning),
-        (Doing::Running { kind, target }, Request::Step) => Turn::Runs { kind, target },
-        (Doing::Running { .. }, Request::Abandon) => Turn::Becomes {
+        }),
+        (Doing::Running { .. }, Request::Begin { .. }) => Err(Refusal::AlreadyRunning),
+        (Doing::Idle, _) => Err(Refusal::NotRunning),
+        (Doing::Running { kind, target }, Request::Step) => Ok(Turn::Runs { kind, target }),
+        (Doing::Running { .. }, Request::Abandon) => Ok(Turn::Becomes {
             doing: Doing::Idle,
             releases: true,
-        },
+        }),
     }
 }

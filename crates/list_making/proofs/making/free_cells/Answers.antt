@@ -1,4 +1,4 @@
-use Rattle.std.proofs.Common.{◌≡◌, false, map, length, set, Some, sym, refl, ap, ◌∙◌, zero-add, add-one, arith}
+use Rattle.std.proofs.Common.{◌≡◌, false, map, length, set, get_or, sym, refl, ap, ◌∙◌, zero-add, add-one, arith}
 use Rattle.std.proofs.lemmas.List.{map-set, length-map}
 use Rattle.std.proofs.lemmas.Option.{slice_get-get_or}
 use Rattle.std.specs.List.{slice_get}
@@ -16,8 +16,8 @@ loop-at-preserved g c =
     let at = c.loop-at.at in
     let count = length c.args.cells.now in
     let given = map cell_of c.args.cells.now in
-    let old = c.given_at-given.result in
-    let read : slice_get given at ≡ _ = sym (front_nth count at 0 given) ∙ sym (ap (λ l. slice_get l at) c.loop-at.invariant.1) ∙ nth_map cell_of cells at ∙ ap (option_map cell_of) (slice_get-get_or cells at old (omega arith) ∙ ap Some (sym c.given_at-given.ensures)) in
+    let old = get_or cells at c.index-cells-at.result in
+    let read : slice_get given at ≡ _ = sym (front_nth count at 0 given) ∙ sym (ap (λ l. slice_get l at) c.loop-at.invariant.1) ∙ nth_map cell_of cells at ∙ ap (option_map cell_of) (slice_get-get_or cells at c.index-cells-at.result (omega arith)) in
     let written = c.freed_cell.ensures ∙ ap (λ l. cell old.key l false) (c.link_after.ensures ∙ ap (λ k. next_number k count) (sym (zero-add at))) in
     (refl, map-set cell_of cells at _ ∙ (λ i. set (c.loop-at.invariant.1 i) at (written i)) ∙ front_more count at 0 given _ read ∙ ap (λ n. freed_front count n 0 given) (sym (add-one at)))
 

@@ -1,5 +1,5 @@
 -- Making refuses sizes that do not fit, and else leaves what the definition says.
-use Rattle.std.proofs.Common.{◌≡◌, ◌≤◌, List, [], ◌∷◌, map, length, replicate, Some, None, sym, refl, ap, ◌∙◌, arith}
+use Rattle.std.proofs.Common.{◌≡◌, ◌≤◌, List, [], ◌∷◌, map, length, replicate, Some, None, sym, refl, ap, ◌∙◌, arith, rules}
 use Rattle.std.proofs.lemmas.List.{length-map}
 use Rattle.keys.specs.Total.{Total}
 use Rattle.list_law.specs.Call.{Link, away}
@@ -7,7 +7,7 @@ use Rattle.list_law.specs.Runs.{onward}
 use Rattle.list_law.proofs.Made.{fits, makes_refused, makes_accepted}
 use Rattle.list_cells.specs.Views.{cell_of}
 use Rattle.list_window.specs.Rows.{row_of}
-use Rattle.list_window.specs.Applied.{state_of}
+use Rattle.list_window.specs.Lent.{lent_state}
 use Rattle.list_making.proofs.Makes.{viewed}
 use Rattle.list_making.proofs.making.make.Goals as goal
 
@@ -20,21 +20,29 @@ pub returns-then-not-sizes_fit : goal.returns-then-not-sizes_fit
 returns-then-not-sizes_fit g c =
     let key = g.met.K.Key in
     let order : Total g.K.Key.below = record { irreflexive = key.irreflexive; transitive = key.transitive; same_transitive = key.same_transitive } in
-    makes_refused g.K.Key.below order g.S.Scheme.table g.S.Scheme.strict g.S.Scheme.acts (state_of c.args.cells.now c.args.rows.now c.args.anchor.now c.args.scheme.now) c.args.window
-    (sym (c.if-not-sizes_fit.ensures ∙ viewed cell_of row_of c.args.cells.now c.args.rows.now c.args.window))
+    let index = c.args.index.now in
+    record {
+      made = makes_refused g.K.Key.below order g.S.Scheme.table g.S.Scheme.strict g.S.Scheme.acts (lent_state index) c.args.window
+          (sym (c.if-not-sizes_fit.ensures ∙ viewed cell_of row_of index.cells.now index.rows.now c.args.window));
+      same = search rules;
+    }
 
 pub returns : goal.returns
 returns g c =
     let key = g.met.K.Key in
     let order : Total g.K.Key.below = record { irreflexive = key.irreflexive; transitive = key.transitive; same_transitive = key.same_transitive } in
-    let cells = c.args.cells.now in
-    let rows = c.args.rows.now in
+    let index = c.args.index.now in
+    let cells = index.cells.now in
+    let rows = index.rows.now in
     let w = c.args.window in
     let marks = c.release_all.new.scheme in
     let right = sym c.if-not-sizes_fit.ensures in
     let sized = fits (length cells) (length rows) w right in
-    let anchor = c.fresh_anchor.ensures ∙ (λ i. record { count = sym (length-map cells cell_of) i; window = w; head = None; free = first_free (map cell_of cells) (omega (arith, length-map cells cell_of, sized.sizes.some_cells)) i }) in
-    makes_accepted g.K.Key.below order g.S.Scheme.table g.S.Scheme.strict g.S.Scheme.acts (state_of cells rows c.args.anchor.now c.args.scheme.now) w _
-    (sym (viewed cell_of row_of cells rows w) ∙ right)
-    (λ i. record { cells = c.free_cells.ensures i; rows = (c.clear_rows.ensures ∙ ap (λ n. replicate n away) sized.rows) i; anchor = anchor i; marks = marks })
-    c.release_all.ensures
+    let anchor = c.fresh_anchor-index.ensures ∙ (λ i. record { count = sym (length-map cells cell_of) i; window = w; head = None; free = first_free (map cell_of cells) (omega (arith, length-map cells cell_of, sized.sizes.some_cells)) i }) in
+    record {
+      made = makes_accepted g.K.Key.below order g.S.Scheme.table g.S.Scheme.strict g.S.Scheme.acts (lent_state index) w _
+          (sym (viewed cell_of row_of cells rows w) ∙ right)
+          (λ i. record { cells = c.free_cells.ensures i; rows = (c.clear_rows.ensures ∙ ap (λ n. replicate n away) sized.rows) i; anchor = anchor i; marks = marks })
+          c.release_all.ensures;
+      same = search rules;
+    }

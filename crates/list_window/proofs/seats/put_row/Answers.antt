@@ -5,7 +5,7 @@ use Rattle.list_window.proofs.seats.put_row.Goals as goal
 
 pub returns-then-at-rows : goal.returns-then-at-rows
 returns-then-at-rows g c =
-    map-set row_of c.args.rows.now c.number-at.result _ ∙ ap (λ i. set (map row_of c.args.rows.now) i (doing_of c.args.doing)) c.number-at.ensures
+    map-set row_of c.args.rows.now c.index-at.result _ ∙ ap (λ i. set (map row_of c.args.rows.now) i (doing_of c.args.doing)) c.index-at.ensures
 
 pub returns-else-at-rows : goal.returns-else-at-rows
 returns-else-at-rows g c =

@@ -1,6 +1,12 @@
-use Rattle.list.proofs.Slips.{join_turns, no_other}
+use Rattle.std.proofs.Common.{rules}
+use Rattle.ledger.specs.Ledger.{join}
+use Rattle.list_window.specs.Lent.{lent_state}
+use Rattle.list.specs.Calls.{call_on}
+use Rattle.list.proofs.Told.{goes_on}
 use Rattle.list.proofs.slip.Slip.join.Goals as goal
 
-pub unreachable-requires : goal.unreachable-requires
-unreachable-requires g c =
-    no_other g.K.Key.below g.S.Scheme.table _ _ (join_turns g.K.Key.below _ _ _ _) c.join.result c.join.ensures.did.answer c.in_default.not-Ok c.in_default.not-Refused
+-- the refusal that is passed on is the one of the call
+pub returns-in_err-join-clause-runs : goal.returns-in_err-join-clause-runs
+returns-in_err-join-clause-runs g c =
+    let index = c.args.index.now in
+    goes_on g.K.Key.below g.S.Scheme.table g.S.Scheme.strict g.S.Scheme.acts (lent_state index) (call_on index join c.args.seat c.args.mask.now.level) (lent_state c.join.new.index) (search rules) c.join.ensures.runs

@@ -1,6 +1,0 @@
-use Rattle.list.proofs.Slips.{leave_turns, no_other}
-use Rattle.list.proofs.slip.Slip.leave.Goals as goal
-
-pub unreachable-requires : goal.unreachable-requires
-unreachable-requires g c =
-    no_other g.K.Key.below g.S.Scheme.table _ _ (leave_turns g.K.Key.below _ _ _ _) c.leave.result c.leave.ensures.did.answer c.in_default.not-Ok c.in_default.not-Refused
