@@ -1,7 +1,9 @@
 -- The answers: number, word and values of each, and the text that stands for it. Assumes nothing.
-use Rattle.std.specs.Prelude.{ℕ, List, [], ◌∷◌, ◌++◌, codes, decimal}
+use Rattle.std.specs.Prelude.{ℕ, List, [], ◌∷◌, ◌++◌, Result, codes, decimal}
+use Rattle.std.specs.declared.result.Result.TheVariants as result
 use Rattle.basis.specs.Told.{Case, told}
 use Rattle.basis.specs.Refusals.{refusal}
+use Rattle.basis.specs.declared.refusal.Refusal as declared-refusal
 use Rattle.basis.specs.declared.answer.Answer.{Answer}
 use Rattle.basis.specs.declared.answer.Answer.TheVariants.{No, Yes, Ok, Wait, Full, Refused}
 
@@ -21,3 +23,8 @@ spaced (v ∷ vs) = 32 ∷ decimal v ++ spaced vs
 -- the word of an answer, and then what it carries
 abbrev pub spoken : Answer → List ℕ
 spoken a = (answer a).word ++ spaced (answer a).values
+
+-- the answer of a call that is accepted or refused, and answers nothing else: ok, whatever is handed out beside it, or the refusal
+abbrev pub settled : {X : Type 0} → Result X declared-refusal.Refusal → Answer
+settled (result.Ok x) = Ok
+settled (result.Err e) = Refused e

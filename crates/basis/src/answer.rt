@@ -1,6 +1,6 @@
 // What a call answers.
-ghost use Rattle.std.specs.Prelude.{Some};
-ghost use Rattle.basis.specs.Answers.{spoken};
+ghost use Rattle.std.specs.Prelude.{◌≡◌, Some};
+ghost use Rattle.basis.specs.Answers.{settled, spoken};
 
 use crate::refusal::Refusal;
 use std::fmt;
@@ -14,6 +14,18 @@ pub enum Answer {
     Wait,
     Full,
     Refused(Refusal),
+}
+
+// The answer of a call that is only accepted or refused.
+impl From<Result<(), Refusal>> for Answer {
+    ghost from_gives = { λ told a. a ≡ settled told };
+
+    fn from(told: Result<(), Refusal>) -> Answer {
+        match told {
+            Ok(()) => Answer::Ok,
+            Err(refusal) => Answer::Refused(refusal),
+        }
+    }
 }
 
 // The word of an answer, and behind a refusal its number.

@@ -2,6 +2,7 @@
 ghost use Rattle.std.specs.Prelude.{◌≡◌, Some};
 ghost use Rattle.basis.specs.Refusals.{refusal};
 
+use std::error::Error;
 use std::fmt;
 
 // Why a call was refused. Each case is named by its meaning; its number is the one that a caller sees.
@@ -49,3 +50,5 @@ impl fmt::Display for Refusal {
         })
     }
 }
+
+impl Error for Refusal {}

@@ -1,8 +1,9 @@
-// The edges of the ranges, the text of each answer, and the mask on both ways out of a call.
+// The edges of the ranges, the text of an answer, a kind, a place and a refusal, and the mask on both ways out of a call.
 ghost use Rattle.std.specs.Prelude.{◌≡◌};
 
 use crate::answer::Answer;
 use crate::bounded::{BankBit, Place, Seat};
+use crate::kind::Kind;
 use crate::mask::{Guard, Mask};
 use crate::refusal::Refusal;
 use std::test::Fail;
@@ -26,6 +27,18 @@ fn answers_are_spoken(rt: HostRuntime) -> Result<(), Fail> {
     let refused = Answer::Refused(Refusal::BadRecord);
     assert_eq!(rt; format!(in heap; "{plain}")?.as_str(), "full");
     assert_eq!(rt; format!(in heap; "{refused}")?.as_str(), "refused 11");
+    Ok(())
+}
+
+#[test]
+fn kinds_places_and_refusals_are_spoken(rt: HostRuntime) -> Result<(), Fail> {
+    let heap = rt.alloc();
+    let kind = Kind::Lookup;
+    let place = Place::try_from(1007)?;
+    let refusal = Refusal::BadLink;
+    assert_eq!(rt; format!(in heap; "{kind}")?.as_str(), "lookup");
+    assert_eq!(rt; format!(in heap; "{place}")?.as_str(), "1007");
+    assert_eq!(rt; format!(in heap; "{refusal}")?.as_str(), "bad link");
     Ok(())
 }
 
