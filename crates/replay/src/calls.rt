@@ -14,7 +14,7 @@ use records::record::Record;
 use schedule::reader::Reader;
 use std::alloc::{AllocError, Global};
 
-// What a record asks, with interrupts open; a setup asks nothing.
+// What a record asks, with interrupts open; a setup asks nothing. A function and no `From`, since neither type is of this crate.
 fn ask_by(content: Record) -> Option<Ask<Sector>>
     ensures { listed_ask result ≡ asked_by content }
 {
