@@ -9,12 +9,13 @@ use list_cells::cell::Cell;
 use replay::replay;
 use std::alloc::Global;
 
-// What is returned in place of a length where memory runs out, and where the room is too short.
+// What is returned in place of a length where memory runs out, and where the room is too short. C gets numbers, since it has no `Result`.
 const NO_MEMORY: usize = usize::MAX;
 
 const NO_ROOM: usize = usize::MAX - 1;
 
-// Writes a text into the room, and returns its length; where the room is too short, nothing is written, and the number says so.
+// Writes a text into the room, and returns its length; where the room is too short, nothing is written, and the number says so. The
+// number is told here: the export's promise lets memory run out anywhere, and would let a short room be told as that.
 fn write_text(text: &[u8], room: &mut [u8]) -> usize
     ensures { Placed text.now room.old room.new result }
 {

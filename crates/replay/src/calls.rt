@@ -14,7 +14,7 @@ use records::record::Record;
 use schedule::reader::Reader;
 use std::alloc::{AllocError, Global};
 
-// What a record asks, with interrupts open; a setup asks nothing.
+// What a record asks, with interrupts open; a setup asks nothing. A function and no `From`, since neither type is of this crate.
 fn ask_by(content: Record) -> Option<Ask<Sector>>
     ensures { listed_ask result ≡ asked_by content }
 {
@@ -45,18 +45,21 @@ pub struct Calls {
     pub stop: Option<Refusal>,
 }
 
-impl Calls {
-    // One record more: the first of all is the setup, and what each asks is added.
-    fn add(&mut self, content: Record) -> Result<(), AllocError>
-        ensures setup { OnOk result (self.new.setup ≡ first_of self.old.setup content) }
-        ensures asks { OnOk result (map ask_of self.new.asks.items ≡ map ask_of self.old.asks.items ++ asked_by content) }
-    {
-        self.setup = self.setup.or(Some(content));
-        if let Some(ask) = ask_by(content) {
-            self.asks.push(ask)?;
-        }
-        Ok(())
+// The first record of all: the one that was first so far, or else this one.
+fn first_of(first: Option<Record>, content: Record) -> Option<Record>
+    ensures { result ≡ first_of first content }
+{
+    first.or(Some(content))
+}
+
+// One record more.
+fn push_ask(asks: &mut Vec<Ask<Sector>>, content: Record) -> Result<(), AllocError>
+    ensures { OnOk result (map ask_of asks.new.items ≡ map ask_of asks.old.items ++ asked_by content) }
+{
+    if let Some(ask) = ask_by(content) {
+        asks.push(ask)?;
     }
+    Ok(())
 }
 
 // Everything that the reader hands out of these bytes, or the refusal to open them.
@@ -67,18 +70,18 @@ pub fn read_calls(heap: Global, bytes: &[u8]) -> Result<Result<Calls, Refusal>, 
         Ok(reader) => reader,
         Err(refusal) => return Ok(Err(refusal)),
     };
-    let mut calls = Calls {
-        setup: None,
-        // a record has four bytes at least
-        asks: Vec::with_capacity(heap, bytes.len() / 4)?,
-        stop: None,
-    };
-    calls.stop = loop {
+    let mut setup = None;
+    // a record has four bytes at least
+    let mut asks = Vec::with_capacity(heap, bytes.len() / 4)?;
+    let stop = loop {
         match reader.next() {
-            Ok(Some(part)) => calls.add(part.content)?,
+            Ok(Some(part)) => {
+                setup = first_of(setup, part.content);
+                push_ask(&mut asks, part.content)?;
+            }
             Ok(None) => break None,
             Err(refusal) => break Some(refusal),
         }
     };
-    Ok(Ok(calls))
+    Ok(Ok(Calls { setup, asks, stop }))
 }

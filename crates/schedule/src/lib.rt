@@ -1,7 +1,8 @@
-// Schedules: the reader over lent bytes, what a whole schedule holds, and the lines that answer it.
+// Schedules: their bytes from an input, the reader over lent bytes, what a whole schedule holds, and the lines that answer it.
 #![tactic(auto)]
 
 pub mod contents;
+pub mod input;
 pub mod laws;
 pub mod lines;
 pub mod reader;

@@ -1,5 +1,5 @@
 // The lines that answer a schedule.
-ghost use Rattle.std.specs.Prelude.{◌≡◌, ◌+◌, ◌<◌, ◌≤◌, [], ◌∷◌, ◌++◌, length, IfOk, OnOk, OnErr, string_bytes, decimal, slice_index_or};
+ghost use Rattle.std.specs.Prelude.{◌≡◌, ◌+◌, ◌<◌, ◌≤◌, [], ◌∷◌, ◌++◌, IfOk, OnOk, OnErr, string_bytes, decimal};
 ghost use Rattle.basis.specs.Answers.{spoken};
 ghost use Rattle.schedule.specs.Lines.{line_of, lines_from, BeginsWith};
 
@@ -73,9 +73,8 @@ fn push_refusal(text: &mut String, refusal: Refusal) -> Result<(), AllocError>
     ensures ok { OnOk result (string_bytes text.new ≡ string_bytes text.old ++ 32 ∷ (spoken (Answer.Refused refusal) ++ 10 ∷ [])) }
     ensures err { OnErr result (BeginsWith (string_bytes text.new) (string_bytes text.old)) }
 {
-    let mut digits = Buffer::new();
     text.push_str(" refused ")?;
-    text.push_str(digits.format(u8::from(refusal)))?;
+    push_number(text, usize::from(u8::from(refusal)))?;
     text.push_str("\n")
 }
 
@@ -105,28 +104,13 @@ pub fn push_line(text: &mut String, number: usize, answer: Answer) -> Result<(),
     push_answer(text, answer)
 }
 
-// Adds the line of one of some answers.
-#[inline(always)]
-fn push_line_of(
-    text: &mut String,
-    number: usize,
-    answers: &[Answer],
-    index: usize,
-) -> Result<(), AllocError>
-    requires { index < length answers.now }
-    ensures ok { OnOk result (string_bytes text.new ≡ string_bytes text.old ++ line_of number (slice_index_or answers.now index Answer.No)) }
-    ensures err { OnErr result (BeginsWith (string_bytes text.new) (string_bytes text.old)) }
-{
-    push_line(text, number, answers[index])
-}
-
 // Adds the lines of answers one after another, the first with that number.
 pub fn push_lines(text: &mut String, first: u16, answers: &[Answer]) -> Result<(), AllocError>
     ensures ok { OnOk result (string_bytes text.new ≡ string_bytes text.old ++ lines_from first answers.now) }
     ensures err { OnErr result (BeginsWith (string_bytes text.new) (string_bytes text.old)) }
 {
-    for index in 0..answers.len() {
-        push_line_of(text, usize::from(first) + index, answers, index)?;
+    for (index, answer) in answers.iter().enumerate() {
+        push_line(text, usize::from(first) + index, *answer)?;
     }
     Ok(())
 }

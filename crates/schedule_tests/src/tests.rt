@@ -4,6 +4,7 @@ use basis::refusal::Refusal;
 use replay::opening::answer_opening;
 use replay::replay;
 use schedule::contents::read_whole;
+use schedule::input::read_schedule;
 use schedule::lines::line;
 use schedule::reader::Reader;
 use std::alloc::Global;
@@ -38,6 +39,17 @@ fn check_text(rt: &impl Abort, heap: Global, bytes: &[u8], text: &str) -> Result
 }
 
 #[test]
+fn one_byte_too_many_at_most_is_read_of_an_input(rt: HostRuntime) -> Result<(), Fail> {
+    let heap = rt.alloc();
+    let worked = read_schedule(heap, WORKED.as_slice())?;
+    assert_eq!(rt; worked.as_slice(), WORKED.as_slice());
+    let long = vec![in heap; 1u8; 70000]?;
+    let read = read_schedule(heap, long.as_slice())?;
+    assert_eq!(rt; read.len(), 60001);
+    check_text(&rt, heap, read.as_slice(), "0 refused 9\n")
+}
+
+#[test]
 fn the_worked_schedule_is_read(rt: HostRuntime) -> Result<(), Fail> {
     let heap = rt.alloc();
     let contents = read_whole(heap, &WORKED)?;
@@ -57,17 +69,15 @@ fn a_record_is_cut_short_at_each_byte(rt: HostRuntime) -> Result<(), Fail> {
     let heap = rt.alloc();
     let ends = [1, 8, 12, 20, 24, 28, 32];
     let mut whole = 0usize;
-    for n in 1..33usize {
-        let contents = read_whole(heap, &WORKED[0..n])?;
-        let mut at_end = false;
-        for (records, end) in ends.iter().enumerate() {
-            if *end <= n {
-                whole = records;
-                at_end = *end == n;
-            }
-        }
+    for n in 1..=32usize {
+        let contents = read_whole(heap, &WORKED[..n])?;
+        whole = ends
+            .iter()
+            .filter(|end| **end <= n)
+            .count()
+            .saturating_sub(1);
         assert_eq!(rt; contents.parts.len(), whole);
-        assert_eq!(rt; contents.refusal.is_none(), at_end);
+        assert_eq!(rt; contents.refusal.is_none(), ends.contains(&n));
     }
     assert_eq!(rt; whole, 6);
     Ok(())

@@ -17,7 +17,7 @@ loop-index-preserved c =
     let first = c.args.first in
     let number = c.from.result + at in
     let before = string_bytes c.args.text.now in
-    c.in_ok-push_line_of.ensures.ok
+    c.in_ok-push_line.ensures.ok
     ∙ ap (λ t. t ++ line_of number (get_or answers at No)) c.loop-index.invariant
     ∙ append_assoc before (lines_from first (take at answers)) (line_of number (get_or answers at No))
     ∙ ap (λ t. before ++ t) (
