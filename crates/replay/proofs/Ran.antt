@@ -21,10 +21,6 @@ told : (b : Bool) → cond b Ok (Refused WrongSizes) ≡ Ok → b ≡ true
 told true e = refl
 told false e = let z : ◌≡◌ {A = ℕ} 0 1 = cc in absurd (omega arith)
 
-not_told : (b : Bool) → (cond b Ok (Refused WrongSizes) ≡ Ok → ⊥) → b ≡ false
-not_told true h = absurd (h refl)
-not_told false h = refl
-
 module _ {M : Type 0} (table : M → Table) (strict : Bool) (acts : Order → M → M → Type 0)
     (n r w : ℕ) (asks : List (Ask Sector)) (before : List Answer) (s : State Sector M) (a : Answer) (after : List Answer) (s' : State Sector M)
     (ran : Ran sector_below table strict acts n r w asks before s a after s')
@@ -32,11 +28,8 @@ module _ {M : Type 0} (table : M → Table) (strict : Bool) (acts : Order → M 
   fits : runnable n r w (length asks) (length before) ≡ makes n 16 w
   fits = λ i. eq-eqb (length asks) (length before) as_many i && makes n (sixteen i) w
 
-  pub accepted : a ≡ Ok → makes n 16 w ≡ true
+  accepted : a ≡ Ok → makes n 16 w ≡ true
   accepted e = sym fits ∙ told _ (sym ran.answer ∙ e)
-
-  pub refused : (a ≡ Ok → ⊥) → makes n 16 w ≡ false
-  refused h = sym fits ∙ not_told _ (λ e. h (ran.answer ∙ e))
 
   pub over : a ≡ Ok → Over table strict acts s.cells w s.marks asks after
   over e =

@@ -12,6 +12,7 @@ use basis::mask::Mask;
 use keys::sector::Sector;
 use list_cells::cell::{Anchor, Cell};
 use list_driver::driver::{Ask, run_calls};
+use list_window::index::Index;
 use list_window::row::{Doing, Row};
 use marks::full::Full;
 use marks::owner::Owner;
@@ -51,19 +52,8 @@ fn run_over<S: Scheme>(
         free: None,
     };
     let mut mask = Mask { level: 0 };
-    match run_calls(
-        cells,
-        &mut rows,
-        &mut anchor,
-        scheme,
-        &mut mask,
-        window,
-        asks,
-        answers,
-    ) {
-        Answer::Ok => true,
-        _ => false,
-    }
+    let mut index = Index::over(cells, &mut rows, &mut anchor, scheme);
+    run_calls(&mut index, &mut mask, window, asks, answers).is_ok()
 }
 
 // The answers of the calls on an index of so many cells with that window, over the scheme; None where making refuses these sizes.
