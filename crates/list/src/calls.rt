@@ -2,7 +2,7 @@
 ghost use Rattle.std.specs.Prelude.{◌≡◌, false};
 ghost use Rattle.list_window.specs.Turns.{what_of};
 ghost use Rattle.list_window.specs.Lent.{lent_state, SameLent};
-ghost use Rattle.list_window.specs.Settled.{settled};
+ghost use Rattle.basis.specs.Answers.{settled};
 ghost use Rattle.list_law.specs.Call.{Did};
 ghost use Rattle.list_law.specs.Continued.{Continues};
 ghost use Rattle.list.specs.Calls.{call_on, is_step};
@@ -16,16 +16,6 @@ use keys::key::Key;
 use list_window::index::Index;
 use list_window::turn::Request;
 use marks::scheme::Scheme;
-
-// The answer that a result stands for.
-pub fn answer_of(told: Result<(), Refusal>) -> Answer
-    ensures { result ≡ settled told }
-{
-    match told {
-        Ok(()) => Answer::Ok,
-        Err(refusal) => Answer::Refused(refusal),
-    }
-}
 
 // Any call but a step, which is accepted or refused.
 fn settle<K: Key, S: Scheme>(

@@ -3,7 +3,7 @@
 ghost use Rattle.std.specs.Prelude.{◌≡◌, IfOk, IfErr};
 ghost use Rattle.list_window.specs.Turns.{what_of};
 ghost use Rattle.list_window.specs.Lent.{lent_state, SameLent};
-ghost use Rattle.list_window.specs.Settled.{settled};
+ghost use Rattle.basis.specs.Answers.{settled};
 ghost use Rattle.list_law.specs.Call.{Did};
 ghost use Rattle.list_law.specs.Continued.{Continues};
 ghost use Rattle.list.specs.Calls.{call_on};

@@ -8,7 +8,7 @@ ghost use Rattle.list_law.specs.Making.{releases, Makes};
 ghost use Rattle.list_cells.specs.Views.{cell_of, anchor_of};
 ghost use Rattle.list_window.specs.Rows.{row_of};
 ghost use Rattle.list_window.specs.Lent.{lent_state, SameLent};
-ghost use Rattle.list_window.specs.Settled.{settled};
+ghost use Rattle.basis.specs.Answers.{settled};
 ghost use Rattle.list_making.specs.Chained.{next_number, fresh};
 
 use basis::bounded::{Place, Seat};

@@ -10,6 +10,7 @@ use keys::sector::Sector;
 use keys::wear::Wear;
 use list_cells::cell::{Anchor, Cell};
 use list_driver::driver::{Ask, run_calls};
+use list_window::index::Index;
 use list_window::row::{Doing, Row};
 use list_window::turn::Request;
 use marks::full::Full;
@@ -104,17 +105,9 @@ fn check_run<K: Key, S: Scheme>(
     let mut anchor = no_anchor();
     let mut mask = Mask { level: 7 };
     let mut answers = [Answer::Ok; 20];
-    let answer = run_calls(
-        cells,
-        rows,
-        &mut anchor,
-        scheme,
-        &mut mask,
-        2,
-        asks,
-        &mut answers,
-    );
-    assert_eq!(rt; answer, Answer::Ok);
+    let mut index = Index::over(cells, rows, &mut anchor, scheme);
+    let told = run_calls(&mut index, &mut mask, 2, asks, &mut answers);
+    assert_eq!(rt; told, Ok(()));
     assert_eq!(rt; mask.level, 7);
     assert_eq!(rt; answers, EXPECTED);
 }
@@ -187,17 +180,10 @@ fn a_relaxed_walker_begins_again(rt: HostRuntime) {
     let mut anchor = no_anchor();
     let mut mask = Mask { level: 0 };
     let mut scheme = Owner::new();
-    let answer = run_calls(
-        &mut cells,
-        &mut away(),
-        &mut anchor,
-        &mut scheme,
-        &mut mask,
-        2,
-        &asks[0..14],
-        &mut answers,
-    );
-    assert_eq!(rt; answer, Answer::Ok);
+    let mut rows = away();
+    let mut index = Index::over(&mut cells, &mut rows, &mut anchor, &mut scheme);
+    let told = run_calls(&mut index, &mut mask, 2, &asks[0..14], &mut answers);
+    assert_eq!(rt; told, Ok(()));
     assert_eq!(rt; answers[11], Answer::Wait);
     assert_eq!(rt; answers[12], Answer::Wait);
     assert_eq!(rt; answers[13], Answer::Wait);
@@ -210,7 +196,7 @@ fn drive_sized(
     answers: usize,
     level: u8,
     window: u8,
-) -> (Answer, Answer) {
+) -> (Result<(), Refusal>, Answer) {
     let ask = Ask {
         seat: 3,
         level,
@@ -223,34 +209,30 @@ fn drive_sized(
     let mut mask = Mask { level: 5 };
     let mut scheme = Full::new();
     assert!(rt; asks <= 4 && answers <= 4);
-    let answer = run_calls(
-        &mut cells,
-        &mut away(),
-        &mut anchor,
-        &mut scheme,
+    let mut rows = away();
+    let mut index = Index::over(&mut cells, &mut rows, &mut anchor, &mut scheme);
+    let told = run_calls(
+        &mut index,
         &mut mask,
         window,
         &lent_asks[0..asks],
         &mut lent_answers[0..answers],
     );
     assert_eq!(rt; mask.level, 5);
-    assert_eq!(rt;
-        anchor.window,
-        if answer == Answer::Ok { window } else { 0 }
-    );
-    (answer, lent_answers[0])
+    assert_eq!(rt; anchor.window, if told.is_ok() { window } else { 0 });
+    (told, lent_answers[0])
 }
 
 #[test]
 fn the_driver_takes_as_many_answers_as_calls(rt: HostRuntime) {
-    let refused = Answer::Refused(Refusal::WrongSizes);
+    let refused = Err(Refusal::WrongSizes);
     assert_eq!(rt; drive_sized(&rt, 3, 2, 0, 1), (refused, Answer::No));
     assert_eq!(rt; drive_sized(&rt, 2, 3, 0, 1), (refused, Answer::No));
     assert_eq!(rt; drive_sized(&rt, 2, 2, 0, 65), (refused, Answer::No));
-    assert_eq!(rt; drive_sized(&rt, 0, 0, 0, 64), (Answer::Ok, Answer::No));
-    assert_eq!(rt; drive_sized(&rt, 1, 1, 6, 64), (Answer::Ok, Answer::Ok));
+    assert_eq!(rt; drive_sized(&rt, 0, 0, 0, 64), (Ok(()), Answer::No));
+    assert_eq!(rt; drive_sized(&rt, 1, 1, 6, 64), (Ok(()), Answer::Ok));
     assert_eq!(rt;
         drive_sized(&rt, 1, 1, 7, 64),
-        (Answer::Ok, Answer::Refused(Refusal::MaskRaised))
+        (Ok(()), Answer::Refused(Refusal::MaskRaised))
     );
 }

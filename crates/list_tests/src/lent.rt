@@ -5,9 +5,10 @@ use basis::kind::Kind;
 use basis::mask::Mask;
 use basis::refusal::Refusal;
 use keys::sector::Sector;
-use list::calls::{abandon, begin, join, leave, step};
+use list::calls::{abandon, answer_of, begin, join, leave, step};
 use list_cells::cell::{Anchor, Cell};
 use list_making::making::make;
+use list_window::index::Index;
 use list_window::row::{Doing, Row};
 use list_window::turn::Request;
 use marks::full::Full;
@@ -80,30 +81,32 @@ impl Lent {
     }
 
     pub(crate) fn make(&mut self, window: u8) -> Answer {
-        make(
+        let mut index = Index::over(
             &mut self.cells,
             &mut self.rows,
             &mut self.anchor,
             &mut self.scheme,
-            window,
-        )
+        );
+        answer_of(make(&mut index, window))
     }
 
     // One of the five calls.
     pub(crate) fn call(&mut self, seat: u8, request: Request<Sector>) -> Answer {
-        let cells = &mut self.cells;
-        let rows = &mut self.rows;
-        let anchor = &mut self.anchor;
-        let scheme = &mut self.scheme;
         let mask = &mut self.mask;
+        let mut index = Index::over(
+            &mut self.cells,
+            &mut self.rows,
+            &mut self.anchor,
+            &mut self.scheme,
+        );
         match request {
-            Request::Join => join(cells, rows, anchor, scheme, mask, seat),
-            Request::Leave => leave(cells, rows, anchor, scheme, mask, seat),
+            Request::Join => answer_of(join(&mut index, mask, seat)),
+            Request::Leave => answer_of(leave(&mut index, mask, seat)),
             Request::Begin { kind, target } => {
-                begin(cells, rows, anchor, scheme, mask, seat, kind, target)
+                answer_of(begin(&mut index, mask, seat, kind, target))
             }
-            Request::Step => step(cells, rows, anchor, scheme, mask, seat),
-            Request::Abandon => abandon(cells, rows, anchor, scheme, mask, seat),
+            Request::Step => step(&mut index, mask, seat),
+            Request::Abandon => answer_of(abandon(&mut index, mask, seat)),
         }
     }
 

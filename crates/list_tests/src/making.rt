@@ -6,6 +6,7 @@ use basis::kind::Kind;
 use basis::refusal::Refusal;
 use list_cells::cell::Anchor;
 use list_making::making::make;
+use list_window::index::Index;
 use list_window::turn::Request;
 use marks::owner::Owner;
 use marks::scheme::Scheme;
@@ -70,10 +71,8 @@ fn check_released<S: Scheme>(rt: &impl Abort, scheme: &mut S) -> Result<(), Fail
     scheme.reserve(first, Place::try_from(0)?);
     scheme.reserve(last, place);
     assert_eq!(rt; scheme.get(first), Some(Place::try_from(0)?));
-    assert_eq!(rt;
-        make(&mut lent.cells, &mut lent.rows, &mut lent.anchor, scheme, 2),
-        Answer::Ok
-    );
+    let mut index = Index::over(&mut lent.cells, &mut lent.rows, &mut lent.anchor, scheme);
+    assert_eq!(rt; make(&mut index, 2), Ok(()));
     assert_eq!(rt; scheme.get(first), None);
     assert_eq!(rt; scheme.get(last), None);
     scheme.reserve(last, place);

@@ -5,9 +5,10 @@ use basis::kind::Kind;
 use basis::mask::Mask;
 use basis::refusal::Refusal;
 use keys::sector::Sector;
-use list::calls::{abandon, begin, join, leave, step};
+use list::calls::{abandon, answer_of, begin, join, leave, step};
 use list_cells::cell::{Anchor, Cell};
 use list_making::making::make;
+use list_window::index::Index;
 use list_window::row::{Doing, Row};
 use marks::full::Full;
 use std::process::Abort;
@@ -30,16 +31,15 @@ fn make_sized(rt: &impl Abort, cells: usize, rows: usize, window: u8) -> Answer 
     let mut anchor = anchor_of(9, 9);
     let mut scheme = Full::new();
     assert!(rt; cells <= 1009 && rows <= 17);
-    let answer = make(
+    let mut index = Index::over(
         &mut lent_cells[0..cells],
         &mut lent_rows[0..rows],
         &mut anchor,
         &mut scheme,
-        window,
     );
-    let made = answer == Answer::Ok;
-    assert_eq!(rt; anchor.window, if made { window } else { 9 });
-    answer
+    let made = make(&mut index, window);
+    assert_eq!(rt; anchor.window, if made.is_ok() { window } else { 9 });
+    answer_of(made)
 }
 
 #[test]
@@ -75,21 +75,13 @@ fn call_each(
     let mut scheme = Full::new();
     let mut mask = Mask { level: 0 };
     let target = Sector { number: 5 };
+    let mut index = Index::over(cells, rows, anchor, &mut scheme);
     [
-        join(cells, rows, anchor, &mut scheme, &mut mask, 0),
-        begin(
-            cells,
-            rows,
-            anchor,
-            &mut scheme,
-            &mut mask,
-            0,
-            Kind::Lookup,
-            target,
-        ),
-        step(cells, rows, anchor, &mut scheme, &mut mask, 0),
-        abandon(cells, rows, anchor, &mut scheme, &mut mask, 0),
-        leave(cells, rows, anchor, &mut scheme, &mut mask, 0),
+        answer_of(join(&mut index, &mut mask, 0)),
+        answer_of(begin(&mut index, &mut mask, 0, Kind::Lookup, target)),
+        step(&mut index, &mut mask, 0),
+        answer_of(abandon(&mut index, &mut mask, 0)),
+        answer_of(leave(&mut index, &mut mask, 0)),
     ]
 }
 

@@ -2,4 +2,3 @@ pub mod Rows
 pub mod Turns
 pub mod Applied
 pub mod Lent
-pub mod Settled

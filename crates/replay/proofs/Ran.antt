@@ -1,6 +1,7 @@
 -- What the driver says of calls on an index that is made for them. Assumes nothing.
 use Rattle.std.proofs.Common.{◌≡◌, ℕ, zero, suc, Bool, true, false, cond, ◌&&◌, List, ◌∷◌, map, replicate, length, sym, refl, ap, ◌∙◌, subst, arith}
 use Rattle.std.proofs.lemmas.Bool.{eq-eqb}
+use Rattle.basis.specs.declared.refusal.Refusal.{Refusal}
 use Rattle.basis.specs.declared.refusal.Refusal.TheVariants.{WrongSizes}
 use Rattle.basis.specs.declared.answer.Answer.{Answer}
 use Rattle.basis.specs.declared.answer.Answer.TheVariants.{Ok, Refused}
@@ -26,9 +27,10 @@ told : (b : Bool) → cond b Ok (Refused WrongSizes) ≡ Ok → b ≡ true
 told true e = refl
 told false e = let z : ◌≡◌ {A = ℕ} 0 1 = cc in absurd (omega arith)
 
-not_told : (b : Bool) → (cond b Ok (Refused WrongSizes) ≡ Ok → ⊥) → b ≡ false
-not_told true h = absurd (h refl)
-not_told false h = refl
+-- refused, and how
+told_refused : (b : Bool) (e : Refusal) → cond b Ok (Refused WrongSizes) ≡ Refused e → (b ≡ false) × (e ≡ WrongSizes)
+told_refused true e h = let z : ◌≡◌ {A = ℕ} 0 1 = cc in absurd (omega arith)
+told_refused false e h = (refl, let same : WrongSizes ≡ e = cc in sym same)
 
 module _ {M : Type 0} (table : M → Table) (strict : Bool) (acts : Order → M → M → Type 0)
     (n r w : ℕ) (asks : List (Ask Sector)) (before : List Answer) (s : State Sector M) (a : Answer) (after : List Answer) (s' : State Sector M)
@@ -40,8 +42,8 @@ module _ {M : Type 0} (table : M → Table) (strict : Bool) (acts : Order → M 
   pub accepted : a ≡ Ok → makes n 16 w ≡ true
   accepted e = sym fits ∙ told _ (sym ran.answer ∙ e)
 
-  pub refused : (a ≡ Ok → ⊥) → makes n 16 w ≡ false
-  refused h = sym fits ∙ not_told _ (λ e. h (ran.answer ∙ e))
+  pub refused : (e : Refusal) → a ≡ Refused e → (makes n 16 w ≡ false) × (e ≡ WrongSizes)
+  refused e h = let both = told_refused _ e (sym ran.answer ∙ h) in (sym fits ∙ both.0, both.1)
 
   pub over : a ≡ Ok → Over table strict acts s.cells w s.marks asks after
   over e =

@@ -4,7 +4,7 @@ ghost use Rattle.replay.specs.Opening.{setup_answer, opening_of};
 
 use basis::answer::Answer;
 use basis::refusal::Refusal;
-use list_making::making::sizes_fit;
+use list_window::sizes::sizes_fit;
 use records::record::Record;
 use schedule::lines::line;
 use schedule::reader::Reader;

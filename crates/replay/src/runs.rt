@@ -13,6 +13,7 @@ use basis::refusal::Refusal;
 use keys::sector::Sector;
 use list_cells::cell::{Anchor, Cell};
 use list_driver::driver::{Ask, run_calls};
+use list_window::index::Index;
 use list_window::row::{Doing, Row};
 use marks::full::Full;
 use marks::owner::Owner;
@@ -48,19 +49,9 @@ fn run_over<S: Scheme>(
         free: None,
     };
     let mut mask = Mask { level: 0 };
-    match run_calls(
-        cells,
-        &mut rows,
-        &mut anchor,
-        scheme,
-        &mut mask,
-        window,
-        asks,
-        answers,
-    ) {
-        Answer::Ok => Ok(()),
-        _ => Err(Refusal::WrongSizes),
-    }
+    let mut index = Index::over(cells, &mut rows, &mut anchor, scheme);
+    run_calls(&mut index, &mut mask, window, asks, answers)?;
+    Ok(())
 }
 
 // The answers of the calls on an index of so many cells with that window, over the scheme; refused where making refuses these sizes.

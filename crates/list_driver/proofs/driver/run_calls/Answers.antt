@@ -1,75 +1,82 @@
--- Making begins the run that the calls go on with.
-use Rattle.std.proofs.Common.{◌≡◌, ℕ, true, eqb, List, map, length, sym, refl, ap, ◌∙◌, subst, rules}
+-- Making begins the run that the calls go on with, or refuses, and then nothing is altered.
+use Rattle.std.proofs.Common.{◌≡◌, ℕ, Bool, true, false, cond, ◌&&◌, eqb, List, map, length, refl, sym, ap, ◌∙◌, rules}
 use Rattle.std.proofs.lemmas.List.{length-map}
-use Rattle.std.proofs.lemmas.Bool.{both_ways, cond-true, cond-false, and_parts, eqb-true}
-use Rattle.basis.specs.declared.answer.Answer.{Answer}
-use Rattle.list_law.specs.Making.{makes, Makes}
+use Rattle.std.proofs.lemmas.Bool.{both_ways, cond-true, cond-false, eq-eqb, eqb-true}
+use Rattle.basis.specs.declared.answer.Answer.TheVariants.{Ok, Refused}
+use Rattle.basis.specs.declared.refusal.Refusal.{Refusal}
+use Rattle.basis.specs.declared.refusal.Refusal.TheVariants.{WrongSizes}
+use Rattle.list_law.specs.Making.{makes}
+use Rattle.list_law.proofs.Lists.{clash}
 use Rattle.list_law.proofs.Made.{fits}
 use Rattle.list_law.proofs.Driven.{driven_none, driven_at}
 use Rattle.list_cells.specs.Views.{cell_of}
 use Rattle.list_window.specs.Rows.{row_of}
-use Rattle.list_window.specs.Applied.{state_of}
+use Rattle.list_window.specs.Lent.{lent_state}
+use Rattle.basis.specs.Answers.{settled}
 use Rattle.list_driver.specs.Asks.{ask_of, runnable}
 use Rattle.list_making.proofs.Makes.{viewed}
 use Rattle.list_driver.proofs.driver.run_calls.Goals as goal
-use Rattle.list_driver.proofs.driver.run_calls.Goals.{After-make}
 
-pub returns-then-not-fits : goal.returns-then-not-fits
-returns-then-not-fits g c =
-    let no = ap (λ k. runnable (length c.args.cells.now) (length c.args.rows.now) c.args.window k (length c.args.answers.now)) (length-map c.args.asks.now ask_of) ∙ sym c.if-not-fits.ensures in
-    record {
-      ran = record { answer = sym (cond-false _ _ _ no); driven = λ t. absurd (both_ways _ no t); same = λ _. (refl, refl) };
-      level = refl;
-    }
+-- what the answer of a making says of the sizes
+took : (b : Bool) → Ok ≡ cond b Ok (Refused WrongSizes) → b ≡ true
+took true e = refl
+took false e = absurd (clash (cc))
 
--- what the test says of calls and sizes
-module _ {X Y Z W : Type 0} (f : X → Y) (h : Z → W) (cells : List X) (rows : List Z) (w calls answers : ℕ) (yes : runnable (length cells) (length rows) w calls answers ≡ true) where
-  both : (eqb calls answers ≡ true) × (makes (length cells) (length rows) w ≡ true)
-  both = and_parts (eqb calls answers) (makes (length cells) (length rows) w) yes
+refused : (b : Bool) (q : Refusal) → Refused q ≡ cond b Ok (Refused WrongSizes) → b ≡ false
+refused true q e = absurd (clash (cc))
+refused false q e = refl
 
-  as_many : calls ≡ answers
-  as_many = eqb-true calls answers both.0
+-- whether the calls can be run, by the test of their number and the answer of the making
+module _ {X Y Z W Q V : Type 0} (f : X → Y) (h : Z → W) (v : Q → V) (cells : List X) (rows : List Z) (w : ℕ) (asks : List Q) (answers : ℕ) where
+  by_number : runnable (length cells) (length rows) w (length (map v asks)) answers ≡ (eqb (length asks) answers && makes (length cells) (length rows) w)
+  by_number = ap (λ k. runnable (length cells) (length rows) w k answers) (length-map asks v)
 
-  sixteen : length rows ≡ 16
-  sixteen = (fits (length cells) (length rows) w both.1).rows
+  too_many : (length asks ≡ answers → ⊥) → runnable (length cells) (length rows) w (length (map v asks)) answers ≡ false
+  too_many apart = by_number ∙ by (eqb (length asks) answers) refl
+    where
+      by : (b : Bool) → eqb (length asks) answers ≡ b → (eqb (length asks) answers && makes (length cells) (length rows) w) ≡ false
+      by true e = absurd (apart (eqb-true _ _ e))
+      by false e = ap (λ b. b && makes (length cells) (length rows) w) e
 
-  sizes : makes (length (map f cells)) (length (map h rows)) w ≡ true
-  sizes = sym (viewed f h cells rows w) ∙ both.1
+  as_made : length asks ≡ answers → runnable (length cells) (length rows) w (length (map v asks)) answers ≡ makes (length (map f cells)) (length (map h rows)) w
+  as_made e = by_number ∙ ap (λ b. b && makes (length cells) (length rows) w) (eq-eqb _ _ e) ∙ viewed f h cells rows w
+
+pub returns-then-asks-answers-clause-ran : goal.returns-then-asks-answers-clause-ran
+returns-then-asks-answers-clause-ran g c =
+    let index = c.args.index.now in
+    let no = too_many cell_of row_of ask_of index.cells.now index.rows.now c.args.window c.args.asks.now (length c.args.answers.now) c.if-asks-answers.true in
+    record { answer = sym (cond-false _ _ _ no); driven = λ t. absurd (both_ways _ no t); same = λ _. (refl, refl) }
+
+pub returns-in_err-make-clause-ran : goal.returns-in_err-make-clause-ran
+returns-in_err-make-clause-ran g c =
+    let index = c.args.index.now in
+    let made = c.in_err-make.ensures.made in
+    let bad = refused _ _ made.answer in
+    let no = as_made cell_of row_of ask_of index.cells.now index.rows.now c.args.window c.args.asks.now (length c.args.answers.now) c.if-asks-answers.false ∙ bad in
+    let passed_on : settled c.from_residual.result ≡ Refused c.in_err-make.field-0.0 = search rules in
+    record { answer = passed_on ∙ made.answer ∙ cond-false _ _ _ bad ∙ sym (cond-false _ _ _ no); driven = λ t. absurd (both_ways _ no t); same = λ _. (made.same bad, refl) }
 
 pub drive-requires : goal.drive-requires
 drive-requires g c =
-    let cells = c.args.cells.now in
-    let rows = c.args.rows.now in
-    let yes = sym c.if-not-fits.ensures in
-    let made = c.make.ensures in
-    let fit = sizes cell_of row_of cells rows c.args.window (length c.args.asks.now) (length c.args.answers.now) yes in (
-      as_many cell_of row_of cells rows c.args.window _ _ yes,
+    let made = c.in_ok-make.ensures.made in
+    let index = c.args.index.now in
+    let fit = took _ made.answer in
+    let same = c.make.ensures.same in (
+      c.if-asks-answers.false,
       (
-        c.make.auto.rows ∙ sixteen cell_of row_of cells rows c.args.window (length c.args.asks.now) (length c.args.answers.now) yes,
-        driven_at (length-map cells cell_of ∙ sym c.make.auto.cells) (sym (ap (λ x. x.anchor.window) (made.made fit))) (driven_none g.K.Key.below g.S.Scheme.table g.S.Scheme.strict g.S.Scheme.acts _ _ _ (made.runs fit)),
+        same.rows ∙ (fits (length index.cells.now) (length index.rows.now) c.args.window (viewed cell_of row_of index.cells.now index.rows.now c.args.window ∙ fit)).rows,
+        driven_at (length-map index.cells.now cell_of ∙ sym same.cells) (sym (ap (λ x. x.anchor.window) (made.made fit))) (driven_none g.K.Key.below g.S.Scheme.table g.S.Scheme.strict g.S.Scheme.acts _ _ _ (made.runs fit)),
       ),
     )
 
-pub returns : goal.returns
-returns g c =
-    let cells = c.args.cells.now in
-    let rows = c.args.rows.now in
-    let scheme = g.S.Scheme in
-    let lent = state_of cells rows c.args.anchor.now c.args.scheme.now in
-    let start = state_of c.make.new.cells c.make.new.rows c.make.new.anchor c.make.new.scheme in
-    let made = c.make.ensures in
-    let told = sym c.if-not-fits.ensures in
-    let fit = sizes cell_of row_of cells rows c.args.window (length c.args.asks.now) (length c.args.answers.now) told in
-    let yes = ap (λ k. runnable (length cells) (length rows) c.args.window k (length c.args.answers.now)) (length-map c.args.asks.now ask_of) ∙ told in
+pub returns-clause-ran : goal.returns-clause-ran
+returns-clause-ran g c =
+    let made = c.in_ok-make.ensures.made in
+    let index = c.args.index.now in
+    let fit = took _ made.answer in
+    let yes = as_made cell_of row_of ask_of index.cells.now index.rows.now c.args.window c.args.asks.now (length c.args.answers.now) c.if-asks-answers.false ∙ fit in
     record {
-      ran = record {
-        answer = sym (cond-true _ _ _ yes);
-        driven = λ _. (
-          start,
-          subst (λ (a : Answer). Makes g.K.Key.below scheme.table scheme.strict scheme.acts lent c.args.window a start) (made.answer ∙ cond-true _ _ _ fit) made,
-          driven_at c.make.auto.cells (ap (λ x. x.anchor.window) (made.made fit)) c.drive.ensures,
-        );
-        same = λ f. absurd (both_ways _ f yes);
-      };
-      level = search rules;
+      answer = sym (cond-true _ _ _ yes);
+      driven = λ _. (lent_state c.make.new.index, made, driven_at c.make.ensures.same.cells (ap (λ x. x.anchor.window) (made.made fit)) c.drive.ensures.driven);
+      same = λ f. absurd (both_ways _ f yes);
     }
