@@ -14,6 +14,7 @@ use schedule::lines::{line, push_line, push_lines};
 use std::alloc::{AllocError, Global};
 
 // Adds the line of the refusal at which reading stopped, if there is one.
+#[tactic(auto, using(std::proofs::lemmas::Grind::common_steps), unfolding(schedule::specs::Lines::lines_from))]
 fn push_stop(text: &mut String, number: usize, stop: Option<Refusal>) -> Result<(), AllocError>
     ensures { OnOk result (string_bytes text.new ≡ string_bytes text.old ++ lines_from number (refused_by stop)) }
 {
@@ -33,6 +34,7 @@ fn text_of_none(heap: Global, stop: Option<Refusal>) -> Result<String, AllocErro
 }
 
 // An accepted setup, the answers of the calls, and the refusal at which reading stopped.
+#[tactic(auto, using(std::proofs::lemmas::Grind::common_steps, schedule::proofs::Numbered::lines_join), unfolding(schedule::specs::Lines::lines_from))]
 fn text_of_answers(
     heap: Global,
     answers: &[Answer],

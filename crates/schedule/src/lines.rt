@@ -17,7 +17,8 @@ fn digit(value: usize) -> u8
     b'0' + value as u8
 }
 
-// The four digits of a number that has so many.
+// The four digits of a number that has so many. This function and the next stay two: one over the number of digits, with a loop over their
+// places, and `itoa` for these numbers too made the whole replay 6 and 11 per cent slower.
 fn four_digits(number: usize) -> [u8; 4]
     requires { (1000 ≤ number) × (number < 10000) }
     ensures { result ≡ decimal number }
