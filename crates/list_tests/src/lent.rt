@@ -5,7 +5,7 @@ use basis::kind::Kind;
 use basis::mask::Mask;
 use basis::refusal::Refusal;
 use keys::sector::Sector;
-use list::calls::{abandon, answer_of, begin, join, leave, step};
+use list::calls::{abandon, begin, join, leave, step};
 use list_cells::cell::{Anchor, Cell};
 use list_making::making::make;
 use list_window::index::Index;
@@ -87,7 +87,7 @@ impl Lent {
             &mut self.anchor,
             &mut self.scheme,
         );
-        answer_of(make(&mut index, window))
+        Answer::from(make(&mut index, window))
     }
 
     // One of the five calls.
@@ -100,20 +100,20 @@ impl Lent {
             &mut self.scheme,
         );
         match request {
-            Request::Join => answer_of(join(&mut index, mask, seat)),
-            Request::Leave => answer_of(leave(&mut index, mask, seat)),
+            Request::Join => Answer::from(join(&mut index, mask, seat)),
+            Request::Leave => Answer::from(leave(&mut index, mask, seat)),
             Request::Begin { kind, target } => {
-                answer_of(begin(&mut index, mask, seat, kind, target))
+                Answer::from(begin(&mut index, mask, seat, kind, target))
             }
             Request::Step => step(&mut index, mask, seat),
-            Request::Abandon => answer_of(abandon(&mut index, mask, seat)),
+            Request::Abandon => Answer::from(abandon(&mut index, mask, seat)),
         }
     }
 
     pub(crate) fn picture(&self) -> Picture {
         let scheme = &self.scheme;
         let marks = array::from_fn(|number| {
-            let seat = Seat::try_from(number as u8).ok();
+            let seat = Seat::try_from(number as u16).ok();
             seat.and_then(|seat| scheme.get(seat))
         });
         Picture {

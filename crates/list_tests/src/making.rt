@@ -20,8 +20,9 @@ fn used(rt: &impl Abort) -> Result<Lent, Fail> {
     lent.cells[1] = cell(20, Some(900), true);
     lent.anchor.free = link_to(900);
     assert_eq!(rt; lent.call(0, begin_of(Kind::Insert, 15)), Answer::Ok);
-    for seat in 0..16u8 {
-        lent.scheme.reserve(Seat::try_from(seat)?, Place::try_from(2)?);
+    for seat in 0..16u16 {
+        lent.scheme
+            .reserve(Seat::try_from(seat)?, Place::try_from(2)?);
     }
     Ok(lent)
 }

@@ -5,7 +5,7 @@ use basis::kind::Kind;
 use basis::mask::Mask;
 use basis::refusal::Refusal;
 use keys::sector::Sector;
-use list::calls::{abandon, answer_of, begin, join, leave, step};
+use list::calls::{abandon, begin, join, leave, step};
 use list_cells::cell::{Anchor, Cell};
 use list_making::making::make;
 use list_window::index::Index;
@@ -39,7 +39,7 @@ fn make_sized(rt: &impl Abort, cells: usize, rows: usize, window: u8) -> Answer 
     );
     let made = make(&mut index, window);
     assert_eq!(rt; anchor.window, if made.is_ok() { window } else { 9 });
-    answer_of(made)
+    Answer::from(made)
 }
 
 #[test]
@@ -77,11 +77,11 @@ fn call_each(
     let target = Sector { number: 5 };
     let mut index = Index::over(cells, rows, anchor, &mut scheme);
     [
-        answer_of(join(&mut index, &mut mask, 0)),
-        answer_of(begin(&mut index, &mut mask, 0, Kind::Lookup, target)),
+        Answer::from(join(&mut index, &mut mask, 0)),
+        Answer::from(begin(&mut index, &mut mask, 0, Kind::Lookup, target)),
         step(&mut index, &mut mask, 0),
-        answer_of(abandon(&mut index, &mut mask, 0)),
-        answer_of(leave(&mut index, &mut mask, 0)),
+        Answer::from(abandon(&mut index, &mut mask, 0)),
+        Answer::from(leave(&mut index, &mut mask, 0)),
     ]
 }
 
