@@ -1,28 +1,13 @@
-use Rattle.std.proofs.Common.{sym, refl, ap}
-use Rattle.list.specs.Calls.{call_of}
-use Rattle.tasks.specs.Turns.{asked}
-use Rattle.tasks.specs.Stations.{seat}
-use Rattle.tasks.proofs.Manned.{called_as, asked_apart, stays_manned}
+-- Each task makes its call on the index that the station lends, so both seats stay held.
+use Rattle.std.proofs.Common.{refl, rules}
+use Rattle.list_window.proofs.Lent.{over_state}
+use Rattle.tasks.proofs.Manned.{did_between, asked_apart, stays_manned}
 use Rattle.tasks.proofs.station.Station.take.Goals as goal
 
-pub returns-in-Host : goal.returns-in-Host
-returns-in-Host g c =
-    let d = c.args.self.now in
-    let ask = c.args.turn.ask in
-    let called = c.show.ensures.called in
-    record {
-      called = called_as (ap (λ t. call_of (asked ask) (seat d t) d.mask.level d.cells d.rows) (sym c.in-Host.is)) called;
-      manned = stays_manned d _ _ _ called.did (asked_apart ask) c.show.auto.cells refl refl c.show.ensures.level c.requires;
-      same = record { host = refl; cleaner = refl; cells = c.show.auto.cells };
-    }
+pub returns-in-Host-clause-manned : goal.returns-in-Host-clause-manned
+returns-in-Host-clause-manned g c =
+    stays_manned c.args.self.now _ _ _ (did_between (over_state c.over-index.ensures) (search rules) c.show.ensures.called.did) (asked_apart c.args.turn.ask) (search rules) refl refl c.show.ensures.level c.requires
 
-pub returns-in-Cleaner : goal.returns-in-Cleaner
-returns-in-Cleaner g c =
-    let d = c.args.self.now in
-    let ask = c.args.turn.ask in
-    let called = c.show-in-Cleaner.ensures.called in
-    record {
-      called = called_as (ap (λ t. call_of (asked ask) (seat d t) d.mask.level d.cells d.rows) (sym c.in-Cleaner.is)) called;
-      manned = stays_manned d _ _ _ called.did (asked_apart ask) c.show-in-Cleaner.auto.cells refl refl c.show-in-Cleaner.ensures.level c.requires;
-      same = record { host = refl; cleaner = refl; cells = c.show-in-Cleaner.auto.cells };
-    }
+pub returns-in-Cleaner-clause-manned : goal.returns-in-Cleaner-clause-manned
+returns-in-Cleaner-clause-manned g c =
+    stays_manned c.args.self.now _ _ _ (did_between (over_state c.over-index.ensures) (search rules) c.show-in-Cleaner.ensures.called.did) (asked_apart c.args.turn.ask) (search rules) refl refl c.show-in-Cleaner.ensures.level c.requires
