@@ -21,7 +21,7 @@ use Rattle.list.proofs.Held.{stays_held}
 use Rattle.tasks.specs.declared.station.Station.{Station}
 use Rattle.tasks.specs.declared.turn.Ask.{Ask}
 use Rattle.tasks.specs.declared.turn.Ask.TheVariants.{Begin, Step, Abandon}
-use Rattle.tasks.specs.Turns.{asked}
+use Rattle.tasks.specs.Turns.{asked, Called}
 use Rattle.tasks.specs.Stations.{state, Manned}
 
 -- as many cells, as the definitions see them
@@ -58,6 +58,17 @@ manned_by d h k host cleaner held held' apart level = record {
 -- the same seat
 pub held_at : {K M : Type 0} {s : State K M} {t u : ℕ} → u ≡ t → Held s t → Held s u
 held_at {s = s} e h = subst (Held s) (sym e) h
+
+pub held_in : {K M : Type 0} {s s' : State K M} {t : ℕ} → s ≡ s' → Held s t → Held s' t
+held_in {t = t} e h = subst (λ s. Held s t) e h
+
+-- the same call, and the same answer
+pub called_as : {M : Type 0} {table : M → Table} {strict : Bool} {acts : Order → M → M → Type 0} {s : State Wear M} {c c' : Call Wear} {a a' : Answer} {s' : State Wear M} → c ≡ c' → a ≡ a' → Called table strict acts s c a s' → Called table strict acts s c' a' s'
+called_as {table = table} {strict = strict} {acts = acts} {s = s} {s' = s'} e f h = subst (λ (x : Call Wear × Answer). Called table strict acts s x.0 x.1 s') (λ i. (e i, f i)) h
+
+-- the same states
+pub did_between : {M : Type 0} {table : M → Table} {strict : Bool} {acts : Order → M → M → Type 0} {s t : State Wear M} {c : Call Wear} {a : Answer} {s' t' : State Wear M} → s ≡ t → s' ≡ t' → Did wear_below table strict acts s c a s' → Did wear_below table strict acts t c a t'
+did_between {M = M} {table = table} {strict = strict} {acts = acts} {c = c} {a = a} e f h = subst (λ (x : State Wear M × State Wear M). Did wear_below table strict acts x.0 c a x.1) (λ i. (e i, f i)) h
 
 -- a call that is no leave leaves both tasks there
 pub stays_manned : {M : Type 0} {table : M → Table} {strict : Bool} {acts : Order → M → M → Type 0} (d d' : Station M) (c : Call Wear) (a : Answer) → Did wear_below table strict acts (state d) c a (state d')

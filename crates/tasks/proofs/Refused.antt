@@ -1,17 +1,16 @@
 -- Why a station is not opened: what a refused making and refused joins say. Assumes nothing.
-use Rattle.std.proofs.Common.{◌≡◌, ℕ, zero, suc, Bool, true, false, cond, not, ◌&&◌, eqb, ltb, leb, ◌≢◌, List, [], ◌∷◌, length, replicate, Some, None, Option, sym, refl, ap, ◌∙◌, subst}
+use Rattle.std.proofs.Common.{◌≡◌, ℕ, zero, suc, Bool, true, false, not, ◌&&◌, eqb, ltb, leb, ◌≢◌, List, [], ◌∷◌, length, replicate, Some, None, Option, sym, refl, ap, ◌∙◌}
 use Rattle.std.proofs.lemmas.Bool.{eq-eqb, both_ways}
 use Rattle.basis.specs.declared.refusal.Refusal.{Refusal}
 use Rattle.basis.specs.declared.refusal.Refusal.TheVariants.{OutOfRange, WrongSizes, MaskRaised, NotAway}
-use Rattle.basis.specs.declared.answer.Answer.{Answer}
-use Rattle.basis.specs.declared.answer.Answer.TheVariants.{Ok, Refused}
+use Rattle.basis.specs.declared.answer.Answer.TheVariants.{Refused}
 use Rattle.keys.specs.declared.wear.Wear.{Wear}
 use Rattle.keys.specs.Wear.{wear_below}
 use Rattle.marks.specs.Meaning.{Table, Order}
 use Rattle.ledger.specs.Tests.{test, first}
 use Rattle.ledger.specs.Ledger.{Call, join}
 use Rattle.list_law.specs.Call.{Cell, Row, away, idle, running, State, Anchor, memory_of, sizes_fit, row_at, row_or, turn, turn_effect, call_effect, effect, rows_after, Did}
-use Rattle.list_law.specs.Making.{makes, Makes}
+use Rattle.list_law.specs.Making.{makes}
 use Rattle.list_law.proofs.Lists.{nth_set_other}
 use Rattle.tasks.specs.Stations.{not_opened}
 use Rattle.tasks.proofs.Manned.{refused_apart}
@@ -32,10 +31,6 @@ module _ (n w h k : ℕ) where
 
   pub seats_refused : makes n 16 w ≡ true → ltb h 16 ≡ true → ltb k 16 ≡ true → eqb k h ≡ true → not_opened n w h k ≡ Some NotAway
   seats_refused e f g a = λ i. first (test (not (e i)) WrongSizes ∷ test (not (f i)) OutOfRange ∷ test (not (g i)) OutOfRange ∷ test (a i) NotAway ∷ [])
-
--- a making of sizes that fit has accepted
-pub made_ok : {M : Type 0} {table : M → Table} {strict : Bool} {acts : Order → M → M → Type 0} {s : State Wear M} {w : ℕ} {a : Answer} {s' : State Wear M} → Makes wear_below table strict acts s w a s' → makes (length s.cells) (length s.rows) w ≡ true → Makes wear_below table strict acts s w Ok s'
-made_ok {table = table} {strict = strict} {acts = acts} {s = s} {w = w} {s' = s'} m e = subst (λ a. Makes wear_below table strict acts s w a s') (m.answer ∙ ap (λ b. cond b Ok (Refused WrongSizes)) e) m
 
 -- sizes that making takes are right in a call
 pub sizes_right : (n w : ℕ) (cs : List (Cell Wear)) (a : Anchor) → length cs ≡ n → a.count ≡ n → a.window ≡ w → makes n 16 w ≡ true → sizes_fit cs a ≡ true

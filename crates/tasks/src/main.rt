@@ -6,11 +6,11 @@ mod plan;
 mod station;
 mod turn;
 
-use basis::bounded::BankBit;
 use crate::account::print_account;
 use crate::plan::schedule;
 use crate::station::run_tasks;
 use crate::turn::Line;
+use basis::bounded::BankBit;
 use basis::refusal::Refusal;
 use keys::wear::Wear;
 use list_cells::cell::Cell;
@@ -35,8 +35,6 @@ fn main(rt: HostRuntime) -> io::Result<()> {
             print_account(&rt, &lines)?;
             println!(rt; "both slips were given back")
         }
-        Err(refusal) => {
-            println!(rt; "not begun: {refusal}")
-        }
+        Err(refusal) => { println!(rt; "not begun: {refusal}") }
     }
 }

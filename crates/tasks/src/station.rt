@@ -1,7 +1,7 @@
 // An index with two tasks at it, each with a slip in hand.
 ghost use Rattle.std.specs.Prelude.{◌≡◌, ◌<◌, map, length, Some, IfOk, IfErr, MatchResult};
-ghost use Rattle.list_window.specs.Applied.{state_of};
-ghost use Rattle.list.specs.Calls.{call_of};
+ghost use Rattle.list_window.specs.Lent.{lent_state, SameLent};
+ghost use Rattle.list.specs.Calls.{call_on};
 ghost use Rattle.tasks.specs.Turns.{asked, Called};
 ghost use Rattle.marks.specs.Marks.{numbered};
 ghost use Rattle.tasks.specs.Stations.{state, call, Manned, Marked, Same, Watches, Plays, not_opened, Begun, Ran};
@@ -15,6 +15,7 @@ use keys::wear::Wear;
 use list::slip::Slip;
 use list_cells::cell::{Anchor, Cell};
 use list_making::making::make;
+use list_window::index::Index;
 use list_window::row::{Doing, Row};
 use marks::scheme::Scheme;
 
@@ -30,22 +31,15 @@ pub struct Station<S> {
 }
 
 // The call that is asked, made by showing a slip.
-fn show<S: Scheme>(
-    slip: &Slip,
-    cells: &mut [Cell<Wear>],
-    rows: &mut [Row<Wear>],
-    anchor: &mut Anchor,
-    scheme: &mut S,
-    mask: &mut Mask,
-    ask: Ask,
-) -> Answer
-    ensures called { Called S.Scheme.table S.Scheme.strict S.Scheme.acts (state_of cells.old rows.old anchor.old scheme.old) (call_of (asked ask) slip.now.seat mask.old.level cells.old rows.old) result (state_of cells.new rows.new anchor.new scheme.new) }
+fn show<S: Scheme>(slip: &Slip, index: &mut Index<'_, Wear, S>, mask: &mut Mask, ask: Ask) -> Answer
+    ensures called { Called S.Scheme.table S.Scheme.strict S.Scheme.acts (lent_state index.old) (call_on index.old (asked ask) slip.now.seat mask.old.level) result (lent_state index.new) }
     ensures level { mask.new.level ≡ mask.old.level }
+    ensures same { SameLent index.old index.new }
 {
     match ask {
-        Ask::Begin { kind, target } => slip.begin(cells, rows, anchor, scheme, mask, kind, target),
-        Ask::Step => slip.step(cells, rows, anchor, scheme, mask),
-        Ask::Abandon => slip.abandon(cells, rows, anchor, scheme, mask),
+        Ask::Begin { kind, target } => Answer::from(slip.begin(index, mask, kind, target)),
+        Ask::Step => slip.step(index, mask),
+        Ask::Abandon => Answer::from(slip.abandon(index, mask)),
     }
 }
 
@@ -54,7 +48,7 @@ fn mark_of<S: Scheme>(slip: &Slip, scheme: &S) -> Option<Place>
     requires { slip.now.seat < 16 }
     ensures { numbered result ≡ S.Scheme.table scheme.now slip.now.seat }
 {
-    let seat = Seat::try_from(slip.seat()).unwrap();
+    let seat = Seat::try_from(u16::from(slip.seat())).unwrap();
     scheme.get(seat)
 }
 
@@ -80,31 +74,10 @@ impl<S: Scheme + Drop> Station<S> {
             free: None,
         };
         let mut mask = Mask { level: 0 };
-        if let Answer::Refused(refusal) = make(
-            &mut cells,
-            &mut rows,
-            &mut anchor,
-            &mut scheme,
-            window,
-        ) {
-            return Err(refusal);
-        }
-        let host = Slip::join(
-            &mut cells,
-            &mut rows,
-            &mut anchor,
-            &mut scheme,
-            &mut mask,
-            host,
-        )?;
-        match Slip::join(
-            &mut cells,
-            &mut rows,
-            &mut anchor,
-            &mut scheme,
-            &mut mask,
-            cleaner,
-        ) {
+        let mut index = Index::over(&mut cells, &mut rows, &mut anchor, &mut scheme);
+        make(&mut index, window)?;
+        let host = Slip::join(&mut index, &mut mask, host)?;
+        match Slip::join(&mut index, &mut mask, cleaner) {
             Ok(cleaner) => Ok(Station {
                 cells,
                 rows,
@@ -115,8 +88,7 @@ impl<S: Scheme + Drop> Station<S> {
                 cleaner,
             }),
             Err(refusal) => {
-                host.leave(&mut cells, &mut rows, &mut anchor, &mut scheme, &mut mask)
-                    .unwrap();
+                host.leave(&mut index, &mut mask).unwrap();
                 Err(refusal)
             }
         }
@@ -130,25 +102,15 @@ impl<S: Scheme + Drop> Station<S> {
         ensures same { Same self.old self.new }
     {
         let ask = turn.ask;
+        let mut index = Index::over(
+            &mut self.cells,
+            &mut self.rows,
+            &mut self.anchor,
+            &mut self.scheme,
+        );
         match turn.task {
-            Task::Host => show(
-                &self.host,
-                &mut self.cells,
-                &mut self.rows,
-                &mut self.anchor,
-                &mut self.scheme,
-                &mut self.mask,
-                ask,
-            ),
-            Task::Cleaner => show(
-                &self.cleaner,
-                &mut self.cells,
-                &mut self.rows,
-                &mut self.anchor,
-                &mut self.scheme,
-                &mut self.mask,
-                ask,
-            ),
+            Task::Host => show(&self.host, &mut index, &mut self.mask, ask),
+            Task::Cleaner => show(&self.cleaner, &mut index, &mut self.mask, ask),
         }
     }
 
@@ -215,11 +177,9 @@ impl<S: Scheme + Drop> Station<S> {
             host,
             cleaner,
         } = self;
-        cleaner
-            .leave(&mut cells, &mut rows, &mut anchor, &mut scheme, &mut mask)
-            .unwrap();
-        host.leave(&mut cells, &mut rows, &mut anchor, &mut scheme, &mut mask)
-            .unwrap();
+        let mut index = Index::over(&mut cells, &mut rows, &mut anchor, &mut scheme);
+        cleaner.leave(&mut index, &mut mask).unwrap();
+        host.leave(&mut index, &mut mask).unwrap();
     }
 }
 
