@@ -24,8 +24,7 @@ fn sizes_right<K: Key, S: Scheme>(index: &Index<'_, K, S>) -> bool
     ensures { result ≡ (sizes_fit (map cell_of index.now.cells.now) (anchor_of index.now.anchor.now) && (length (map row_of index.now.rows.now) == 16)) }
 {
     let count = index.cells.len();
-    (count == index.anchor.count as usize)
-        & sizes_fit(count, index.rows.len(), index.anchor.window)
+    (count == index.anchor.count as usize) & sizes_fit(count, index.rows.len(), index.anchor.window)
 }
 
 fn level_fits(level: u8) -> bool
@@ -35,6 +34,7 @@ fn level_fits(level: u8) -> bool
 }
 
 // The seat of a call that is not refused whatever its row is.
+#[inline(always)]
 fn admit<K: Key, S: Scheme>(
     index: &Index<'_, K, S>,
     seat: u8,
@@ -54,6 +54,7 @@ fn admit<K: Key, S: Scheme>(
 }
 
 // One call, whatever is asked. The mask is raised before anything is looked at, and the guard puts the level back on every way out.
+#[inline(always)]
 pub fn make_call<K: Key, S: Scheme>(
     index: &mut Index<'_, K, S>,
     mask: &mut Mask,
