@@ -34,6 +34,7 @@ fn level_fits(level: u8) -> bool
 }
 
 // The seat of a call that is not refused whatever its row is.
+#[inline(always)]
 fn admit<K: Key, S: Scheme>(
     index: &Index<'_, K, S>,
     seat: u8,
@@ -53,6 +54,7 @@ fn admit<K: Key, S: Scheme>(
 }
 
 // One call, whatever is asked. The mask is raised before anything is looked at, and the guard puts the level back on every way out.
+#[inline(always)]
 pub fn make_call<K: Key, S: Scheme>(
     index: &mut Index<'_, K, S>,
     mask: &mut Mask,

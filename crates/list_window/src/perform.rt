@@ -37,6 +37,7 @@ impl<K: Key, S: Scheme> Index<'_, K, S> {
     }
 
     // What a request of a seat does, by its row.
+    #[inline(always)]
     pub fn perform(&mut self, guard: &Guard, seat: Seat, request: Request<K>) -> Answer
         requires { guard.now.mask.now.level ≡ 7 }
         ensures applied { Applied S.Scheme.table S.Scheme.strict S.Scheme.acts seat.number (turn_effect K.Key.below (window_memory self.old) seat.number self.old.anchor.now.window (S.Scheme.table self.old.scheme.now seat.number) (turn seat.number (row_at (map row_of self.old.rows.now) seat.number) (what_of request))) (lent_state self.old) result (lent_state self.new) }

@@ -43,6 +43,7 @@ fn walk_behind<K: Key>(
 
 impl<K: Key, S: Scheme> Index<'_, K, S> {
     // The operation has its answer: the row becomes idle, and the mark is released.
+    #[inline(always)]
     fn end_operation(&mut self, seat: Seat, answer: Answer) -> Answer
         ensures applied { Applied S.Scheme.table S.Scheme.strict S.Scheme.acts seat.number (ended seat.number answer (window_memory self.old)) (lent_state self.old) result (lent_state self.new) }
         ensures same { SameLent self.old self.new }
@@ -53,6 +54,7 @@ impl<K: Key, S: Scheme> Index<'_, K, S> {
     }
 
     // The window is used up at a place, which the seat marks.
+    #[inline(always)]
     fn wait_at(&mut self, seat: Seat, place: Place) -> Answer
         ensures applied { Applied S.Scheme.table S.Scheme.strict S.Scheme.acts seat.number (waiting seat.number place.number (window_memory self.old)) (lent_state self.old) result (lent_state self.new) }
         ensures same { SameLent self.old self.new }
