@@ -79,7 +79,8 @@ fn push_refusal(text: &mut String, refusal: Refusal) -> Result<(), AllocError>
     text.push_str("\n")
 }
 
-// Adds what stands behind the number in a line: a space, the answer, and a line feed.
+// Adds what stands behind the number in a line: a space, the answer, and a line feed. Not by `write!`, which promises nothing of a text
+// where memory runs out.
 #[inline(always)]
 fn push_answer(text: &mut String, answer: Answer) -> Result<(), AllocError>
     ensures ok { OnOk result (string_bytes text.new ≡ string_bytes text.old ++ 32 ∷ (spoken answer ++ 10 ∷ [])) }
@@ -106,6 +107,7 @@ pub fn push_line(text: &mut String, number: usize, answer: Answer) -> Result<(),
 }
 
 // Adds the lines of answers one after another, the first with that number.
+#[tactic(auto, using(std::proofs::lemmas::Grind::common_steps, crate::proofs::Numbered::lines_more), unfolding(crate::specs::Lines::lines_from))]
 pub fn push_lines(text: &mut String, first: u16, answers: &[Answer]) -> Result<(), AllocError>
     ensures ok { OnOk result (string_bytes text.new ≡ string_bytes text.old ++ lines_from first answers.now) }
     ensures err { OnErr result (BeginsWith (string_bytes text.new) (string_bytes text.old)) }
