@@ -5,7 +5,8 @@ ghost use Rattle.basis.specs.Answers.{settled, spoken};
 use crate::refusal::Refusal;
 use std::fmt;
 
-// The answer of a call. A refusal is an answer too, and carries which one it is.
+// The answer of a call. A refusal is an answer too, and carries which one it is: a line prints it and the ledger gives it like the others, and a
+// `Result` has no `Display`. Calls that are only accepted or refused return a `Result`.
 #[derive(Clone, Copy, PartialEq, Eq, Debug)]
 pub enum Answer {
     No,

@@ -37,6 +37,7 @@ impl<const END: u16> TryFrom<u16> for Bounded<END> {
 }
 
 impl<const END: u16> Bounded<END> {
+    // The plain number. A method and no `From`: `seat.number()` says what it is where `u16::from(seat)` says only of which type.
     pub fn number(self) -> u16
         ensures { result ≡ self.entry.number }
     {

@@ -2,7 +2,8 @@
 ghost use Rattle.std.specs.Prelude.{◌≡◌, Bool, true, false};
 ghost use Rattle.keys.specs.Total.{Same, Total};
 
-// A kind of key. Whoever adds one gives `below`, shows the three laws of it, and computes it.
+// A kind of key. Whoever adds one gives `below`, shows the three laws of it, and computes it. It is no `Ord`: keys neither of which is below the
+// other need not be equal, and `Ord` would ask that of every kind.
 pub trait Key: Copy {
     ghost below: { Self → Self → Bool };
 

@@ -1,4 +1,5 @@
-// The writes of a window: to cells, and to where the two chains begin.
+// The writes of a window: to cells, and to where the two chains begin. Cells and anchor are two parameters and no struct: an index has them as
+// fields, and would have to be taken apart for it and put together again.
 ghost use Rattle.std.specs.Prelude.{◌≡◌, true, false, map};
 ghost use Rattle.marks.specs.Marks.{numbered};
 ghost use Rattle.list_law.specs.Call.{rewritten, linked, flagged, leading_set, freed, removed, inserted};

@@ -1,4 +1,5 @@
-// What law.rt promises, as proved: the public functions there only cite these.
+// What law.rt promises, as proved: the public functions there only cite these. Each stands twice so that an edit of a public clause is refused
+// at that clause, and not because a proof no longer fits it.
 ghost use Rattle.std.specs.Prelude.{suc, ◌+◌, ◌*◌, ◌/◌, Bool};
 ghost use Rattle.keys.specs.declared.sector.Sector.{Sector};
 ghost use Rattle.marks.specs.Meaning.{Table};

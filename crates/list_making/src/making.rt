@@ -64,10 +64,7 @@ fn known_seat(number: u16) -> Seat
     requires { number < 16 }
     ensures { result.number ≡ number }
 {
-    match Seat::try_from(number) {
-        Ok(seat) => seat,
-        Err(_) => unreachable(),
-    }
+    Seat::try_from(number).unwrap()
 }
 
 // All sixteen marks are released, one after another.
