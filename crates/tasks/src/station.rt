@@ -163,11 +163,10 @@ impl<S: Scheme + Drop> Station<S> {
         ensures manned { Manned self.new }
         ensures same { Same self.old self.new }
     {
-        for at in 0..lines.len() {
-            let line = lines[at];
+        for line in lines.iter_mut() {
             let turn = line.turn;
             let seen = Some(self.watch(turn));
-            lines[at] = Line { turn, seen };
+            *line = Line { turn, seen };
         }
     }
 
