@@ -20,6 +20,7 @@ use list_cells::walk::{Met, cell_at, walk_from};
 use marks::scheme::Scheme;
 
 // How many cells the next window of a seat may meet, by the anchor's window and the seat's mark.
+#[tactic(auto, unfolding(list_law::specs::Call::reach))]
 fn width(seat: Seat, window: u8, mark: Option<Place>) -> u8
     ensures { result ≡ reach seat.number window (numbered mark) }
 {

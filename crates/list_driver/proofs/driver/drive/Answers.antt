@@ -1,6 +1,6 @@
 -- Each turn is one call more of the run, and one answer more.
 use Rattle.std.proofs.Common.{◌≡◌, [], ◌∷◌, ◌++◌, map, length, take, sym, ap, ◌∙◌, arith, rules}
-use Rattle.std.proofs.lemmas.List.{take_all, take_more, take_more_set, get_or-map, length-map}
+use Rattle.std.proofs.lemmas.List.{take_more, take_more_set, get_or-map, length-map}
 use Rattle.list_law.specs.Performed.{called}
 use Rattle.list_law.specs.Driven.{asked}
 use Rattle.list_law.proofs.Driven.{driven_more, driven_as}
@@ -32,15 +32,3 @@ loop-at-preserved g c =
           (driven_more g.K.Key.below scheme.table scheme.strict scheme.acts n w _ _ _ before (ask_of ask) _ c.run_ask.result _ call own c.loop-at.invariant.0 c.run_ask.ensures.did c.run_ask.ensures.runs),
       search rules,
     )
-
-pub returns : goal.returns
-returns g c =
-    let scheme = g.S.Scheme in
-    let asks = c.args.asks.now in
-    record {
-      driven = driven_as g.K.Key.below scheme.table scheme.strict scheme.acts (length c.args.index.now.cells.now) c.args.index.now.anchor.now.window
-          (take_all c.loop-at.at (map ask_of asks) (omega (arith, length-map asks ask_of)))
-          (take_all c.loop-at.at c.loop-at.answers (omega (arith, c.loop-at.auto.answers, c.requires.0)))
-          c.loop-at.invariant.0;
-      same = c.loop-at.invariant.1;
-    }
