@@ -54,7 +54,7 @@ watches_more table strict acts d [] d' l d'' e more = (d'', subst (λ x. Watched
 watches_more table strict acts d (k ∷ ls) d' l d'' (e, first, rest) more = (e, first, watches_more table strict acts e ls d' l d'' rest more)
 
 -- a line that is written again with its turn
-pub turns_stay : (lines : List Line) (i : ℕ) (x y : Line) → i < length lines → y.turn ≡ (get_or lines i x).turn → map (λ (l : Line). l.turn) (set lines i y) ≡ map (λ (l : Line). l.turn) lines
-turns_stay lines i x y h e =
+pub turns_stay : (lines : List Line) (i : ℕ) (x y : Line) → i < length lines → x ≡ get_or lines i x → y.turn ≡ x.turn → map (λ (l : Line). l.turn) (set lines i y) ≡ map (λ (l : Line). l.turn) lines
+turns_stay lines i x y h is e =
     let turn : Line → Turn = λ l. l.turn in
-    map-set turn lines i y ∙ ap (λ t. set (map turn lines) i t) (e ∙ sym (get_or-map turn lines i x x.turn h)) ∙ set-get_or (map turn lines) i x.turn
+    map-set turn lines i y ∙ ap (λ t. set (map turn lines) i t) (e ∙ ap turn is ∙ sym (get_or-map turn lines i x x.turn h)) ∙ set-get_or (map turn lines) i x.turn
