@@ -1,4 +1,3 @@
 pub mod Effects
 pub mod Slips
 pub mod Held
-pub mod Told

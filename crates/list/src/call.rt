@@ -1,13 +1,12 @@
 // One call: the refusals that look at no row, and then the inner part, under the raised mask.
 ghost use Rattle.std.specs.Prelude.{◌≡◌, ◌&&◌, map, length, Some, None, MatchResult, ◌==◌, nat_lt};
 ghost use Rattle.ledger.specs.Tests.{first};
-ghost use Rattle.list_law.specs.Call.{sizes_fit, refusals, Did};
-ghost use Rattle.list_law.specs.Continued.{Continues};
+ghost use Rattle.list_law.specs.Call.{sizes_fit, refusals};
 ghost use Rattle.list_cells.specs.Views.{cell_of, anchor_of};
 ghost use Rattle.list_window.specs.Rows.{row_of};
 ghost use Rattle.list_window.specs.Turns.{what_of};
-ghost use Rattle.list_window.specs.Lent.{lent_state, SameLent};
-ghost use Rattle.list.specs.Calls.{call_on};
+ghost use Rattle.list_window.specs.Lent.{lent_state};
+ghost use Rattle.list.specs.Calls.{call_on, CalledOn};
 
 use basis::answer::Answer;
 use basis::bounded::Seat;
@@ -61,10 +60,8 @@ pub fn make_call<K: Key, S: Scheme>(
     seat: u8,
     request: Request<K>,
 ) -> Answer
-    ensures did { Did K.Key.below S.Scheme.table S.Scheme.strict S.Scheme.acts (lent_state index.old) (call_on index.old (what_of request) seat mask.old.level) result (lent_state index.new) }
+    ensures called { CalledOn K.Key.below S.Scheme.table S.Scheme.strict S.Scheme.acts index.old (what_of request) seat mask.old.level result index.new }
     ensures level { mask.new.level ≡ mask.old.level }
-    ensures runs { Continues K.Key.below S.Scheme.table S.Scheme.strict S.Scheme.acts (lent_state index.old) (call_on index.old (what_of request) seat mask.old.level) result (lent_state index.new) }
-    ensures same { SameLent index.old index.new }
 {
     let level = mask.level;
     let guard = Guard::raise(mask);

@@ -1,11 +1,8 @@
 // The five calls, by plain seat number.
 ghost use Rattle.std.specs.Prelude.{◌≡◌, false};
 ghost use Rattle.list_window.specs.Turns.{what_of};
-ghost use Rattle.list_window.specs.Lent.{lent_state, SameLent};
 ghost use Rattle.basis.specs.Answers.{settled};
-ghost use Rattle.list_law.specs.Call.{Did};
-ghost use Rattle.list_law.specs.Continued.{Continues};
-ghost use Rattle.list.specs.Calls.{call_on, is_step};
+ghost use Rattle.list.specs.Calls.{is_step, CalledOn};
 
 use crate::call::make_call;
 use basis::answer::Answer;
@@ -25,10 +22,8 @@ fn settle<K: Key, S: Scheme>(
     request: Request<K>,
 ) -> Result<(), Refusal>
     requires { is_step (what_of request) ≡ false }
-    ensures did { Did K.Key.below S.Scheme.table S.Scheme.strict S.Scheme.acts (lent_state index.old) (call_on index.old (what_of request) seat mask.old.level) (settled result) (lent_state index.new) }
+    ensures called { CalledOn K.Key.below S.Scheme.table S.Scheme.strict S.Scheme.acts index.old (what_of request) seat mask.old.level (settled result) index.new }
     ensures level { mask.new.level ≡ mask.old.level }
-    ensures runs { Continues K.Key.below S.Scheme.table S.Scheme.strict S.Scheme.acts (lent_state index.old) (call_on index.old (what_of request) seat mask.old.level) (settled result) (lent_state index.new) }
-    ensures same { SameLent index.old index.new }
 {
     match make_call(index, mask, seat, request) {
         Answer::Ok => Ok(()),
@@ -43,10 +38,8 @@ pub fn join<K: Key, S: Scheme>(
     mask: &mut Mask,
     seat: u8,
 ) -> Result<(), Refusal>
-    ensures did { Did K.Key.below S.Scheme.table S.Scheme.strict S.Scheme.acts (lent_state index.old) (call_on index.old (what_of Request.Join) seat mask.old.level) (settled result) (lent_state index.new) }
+    ensures called { CalledOn K.Key.below S.Scheme.table S.Scheme.strict S.Scheme.acts index.old (what_of Request.Join) seat mask.old.level (settled result) index.new }
     ensures level { mask.new.level ≡ mask.old.level }
-    ensures runs { Continues K.Key.below S.Scheme.table S.Scheme.strict S.Scheme.acts (lent_state index.old) (call_on index.old (what_of Request.Join) seat mask.old.level) (settled result) (lent_state index.new) }
-    ensures same { SameLent index.old index.new }
 {
     settle(index, mask, seat, Request::Join)
 }
@@ -57,10 +50,8 @@ pub fn leave<K: Key, S: Scheme>(
     mask: &mut Mask,
     seat: u8,
 ) -> Result<(), Refusal>
-    ensures did { Did K.Key.below S.Scheme.table S.Scheme.strict S.Scheme.acts (lent_state index.old) (call_on index.old (what_of Request.Leave) seat mask.old.level) (settled result) (lent_state index.new) }
+    ensures called { CalledOn K.Key.below S.Scheme.table S.Scheme.strict S.Scheme.acts index.old (what_of Request.Leave) seat mask.old.level (settled result) index.new }
     ensures level { mask.new.level ≡ mask.old.level }
-    ensures runs { Continues K.Key.below S.Scheme.table S.Scheme.strict S.Scheme.acts (lent_state index.old) (call_on index.old (what_of Request.Leave) seat mask.old.level) (settled result) (lent_state index.new) }
-    ensures same { SameLent index.old index.new }
 {
     settle(index, mask, seat, Request::Leave)
 }
@@ -73,20 +64,16 @@ pub fn begin<K: Key, S: Scheme>(
     kind: Kind,
     target: K,
 ) -> Result<(), Refusal>
-    ensures did { Did K.Key.below S.Scheme.table S.Scheme.strict S.Scheme.acts (lent_state index.old) (call_on index.old (what_of (Request.Begin kind target)) seat mask.old.level) (settled result) (lent_state index.new) }
+    ensures called { CalledOn K.Key.below S.Scheme.table S.Scheme.strict S.Scheme.acts index.old (what_of (Request.Begin kind target)) seat mask.old.level (settled result) index.new }
     ensures level { mask.new.level ≡ mask.old.level }
-    ensures runs { Continues K.Key.below S.Scheme.table S.Scheme.strict S.Scheme.acts (lent_state index.old) (call_on index.old (what_of (Request.Begin kind target)) seat mask.old.level) (settled result) (lent_state index.new) }
-    ensures same { SameLent index.old index.new }
 {
     settle(index, mask, seat, Request::Begin { kind, target })
 }
 
 // A running seat runs one window.
 pub fn step<K: Key, S: Scheme>(index: &mut Index<'_, K, S>, mask: &mut Mask, seat: u8) -> Answer
-    ensures did { Did K.Key.below S.Scheme.table S.Scheme.strict S.Scheme.acts (lent_state index.old) (call_on index.old (what_of Request.Step) seat mask.old.level) result (lent_state index.new) }
+    ensures called { CalledOn K.Key.below S.Scheme.table S.Scheme.strict S.Scheme.acts index.old (what_of Request.Step) seat mask.old.level result index.new }
     ensures level { mask.new.level ≡ mask.old.level }
-    ensures runs { Continues K.Key.below S.Scheme.table S.Scheme.strict S.Scheme.acts (lent_state index.old) (call_on index.old (what_of Request.Step) seat mask.old.level) result (lent_state index.new) }
-    ensures same { SameLent index.old index.new }
 {
     make_call(index, mask, seat, Request::Step)
 }
@@ -97,10 +84,8 @@ pub fn abandon<K: Key, S: Scheme>(
     mask: &mut Mask,
     seat: u8,
 ) -> Result<(), Refusal>
-    ensures did { Did K.Key.below S.Scheme.table S.Scheme.strict S.Scheme.acts (lent_state index.old) (call_on index.old (what_of Request.Abandon) seat mask.old.level) (settled result) (lent_state index.new) }
+    ensures called { CalledOn K.Key.below S.Scheme.table S.Scheme.strict S.Scheme.acts index.old (what_of Request.Abandon) seat mask.old.level (settled result) index.new }
     ensures level { mask.new.level ≡ mask.old.level }
-    ensures runs { Continues K.Key.below S.Scheme.table S.Scheme.strict S.Scheme.acts (lent_state index.old) (call_on index.old (what_of Request.Abandon) seat mask.old.level) (settled result) (lent_state index.new) }
-    ensures same { SameLent index.old index.new }
 {
     settle(index, mask, seat, Request::Abandon)
 }

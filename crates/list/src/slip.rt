@@ -2,11 +2,8 @@
 // or copied, only join makes one, and only leave takes one.
 ghost use Rattle.std.specs.Prelude.{◌≡◌, IfOk, IfErr};
 ghost use Rattle.list_window.specs.Turns.{what_of};
-ghost use Rattle.list_window.specs.Lent.{lent_state, SameLent};
 ghost use Rattle.basis.specs.Answers.{settled};
-ghost use Rattle.list_law.specs.Call.{Did};
-ghost use Rattle.list_law.specs.Continued.{Continues};
-ghost use Rattle.list.specs.Calls.{call_on};
+ghost use Rattle.list.specs.Calls.{CalledOn};
 ghost use Rattle.list.specs.Slips.{left};
 
 use crate::calls;
@@ -44,10 +41,8 @@ impl Slip {
         mask: &mut Mask,
         seat: u8,
     ) -> Result<Slip, Refusal>
-        ensures did { Did K.Key.below S.Scheme.table S.Scheme.strict S.Scheme.acts (lent_state index.old) (call_on index.old (what_of Request.Join) seat mask.old.level) (settled result) (lent_state index.new) }
+        ensures called { CalledOn K.Key.below S.Scheme.table S.Scheme.strict S.Scheme.acts index.old (what_of Request.Join) seat mask.old.level (settled result) index.new }
         ensures level { mask.new.level ≡ mask.old.level }
-        ensures runs { Continues K.Key.below S.Scheme.table S.Scheme.strict S.Scheme.acts (lent_state index.old) (call_on index.old (what_of Request.Join) seat mask.old.level) (settled result) (lent_state index.new) }
-        ensures same { SameLent index.old index.new }
         ensures seat { IfOk result (λ slip. slip.seat ≡ seat) }
     {
         calls::join(index, mask, seat)?;
@@ -62,20 +57,16 @@ impl Slip {
         kind: Kind,
         target: K,
     ) -> Result<(), Refusal>
-        ensures did { Did K.Key.below S.Scheme.table S.Scheme.strict S.Scheme.acts (lent_state index.old) (call_on index.old (what_of (Request.Begin kind target)) self.now.seat mask.old.level) (settled result) (lent_state index.new) }
+        ensures called { CalledOn K.Key.below S.Scheme.table S.Scheme.strict S.Scheme.acts index.old (what_of (Request.Begin kind target)) self.now.seat mask.old.level (settled result) index.new }
         ensures level { mask.new.level ≡ mask.old.level }
-        ensures runs { Continues K.Key.below S.Scheme.table S.Scheme.strict S.Scheme.acts (lent_state index.old) (call_on index.old (what_of (Request.Begin kind target)) self.now.seat mask.old.level) (settled result) (lent_state index.new) }
-        ensures same { SameLent index.old index.new }
     {
         calls::begin(index, mask, self.seat, kind, target)
     }
 
     // The seat of the slip runs one window.
     pub fn step<K: Key, S: Scheme>(&self, index: &mut Index<'_, K, S>, mask: &mut Mask) -> Answer
-        ensures did { Did K.Key.below S.Scheme.table S.Scheme.strict S.Scheme.acts (lent_state index.old) (call_on index.old (what_of Request.Step) self.now.seat mask.old.level) result (lent_state index.new) }
+        ensures called { CalledOn K.Key.below S.Scheme.table S.Scheme.strict S.Scheme.acts index.old (what_of Request.Step) self.now.seat mask.old.level result index.new }
         ensures level { mask.new.level ≡ mask.old.level }
-        ensures runs { Continues K.Key.below S.Scheme.table S.Scheme.strict S.Scheme.acts (lent_state index.old) (call_on index.old (what_of Request.Step) self.now.seat mask.old.level) result (lent_state index.new) }
-        ensures same { SameLent index.old index.new }
     {
         calls::step(index, mask, self.seat)
     }
@@ -86,10 +77,8 @@ impl Slip {
         index: &mut Index<'_, K, S>,
         mask: &mut Mask,
     ) -> Result<(), Refusal>
-        ensures did { Did K.Key.below S.Scheme.table S.Scheme.strict S.Scheme.acts (lent_state index.old) (call_on index.old (what_of Request.Abandon) self.now.seat mask.old.level) (settled result) (lent_state index.new) }
+        ensures called { CalledOn K.Key.below S.Scheme.table S.Scheme.strict S.Scheme.acts index.old (what_of Request.Abandon) self.now.seat mask.old.level (settled result) index.new }
         ensures level { mask.new.level ≡ mask.old.level }
-        ensures runs { Continues K.Key.below S.Scheme.table S.Scheme.strict S.Scheme.acts (lent_state index.old) (call_on index.old (what_of Request.Abandon) self.now.seat mask.old.level) (settled result) (lent_state index.new) }
-        ensures same { SameLent index.old index.new }
     {
         calls::abandon(index, mask, self.seat)
     }
@@ -100,10 +89,8 @@ impl Slip {
         index: &mut Index<'_, K, S>,
         mask: &mut Mask,
     ) -> Result<(), Kept>
-        ensures did { Did K.Key.below S.Scheme.table S.Scheme.strict S.Scheme.acts (lent_state index.old) (call_on index.old (what_of Request.Leave) self.seat mask.old.level) (left result) (lent_state index.new) }
+        ensures called { CalledOn K.Key.below S.Scheme.table S.Scheme.strict S.Scheme.acts index.old (what_of Request.Leave) self.seat mask.old.level (left result) index.new }
         ensures level { mask.new.level ≡ mask.old.level }
-        ensures runs { Continues K.Key.below S.Scheme.table S.Scheme.strict S.Scheme.acts (lent_state index.old) (call_on index.old (what_of Request.Leave) self.seat mask.old.level) (left result) (lent_state index.new) }
-        ensures same { SameLent index.old index.new }
         ensures slip { IfErr result (λ kept. kept.slip ≡ self) }
     {
         let Slip { seat } = self;

@@ -1,12 +1,10 @@
 // The driver: makes an index and runs a list of calls on it.
 ghost use Rattle.std.specs.Prelude.{◌≡◌, [], map, length};
 ghost use Rattle.list_driver.specs.Asks.{ask_of, Ran};
-ghost use Rattle.list.specs.Calls.{call_on};
+ghost use Rattle.list.specs.Calls.{CalledOn};
 ghost use Rattle.list_window.specs.Turns.{what_of};
 ghost use Rattle.list_window.specs.Lent.{lent_state, SameLent};
 ghost use Rattle.basis.specs.Answers.{settled};
-ghost use Rattle.list_law.specs.Call.{Did};
-ghost use Rattle.list_law.specs.Continued.{Continues};
 ghost use Rattle.list_law.specs.Driven.{Driven};
 
 use basis::answer::Answer;
@@ -29,9 +27,7 @@ pub struct Ask<K> {
 
 // One call of the list, at its own mask level.
 fn run_ask<K: Key, S: Scheme>(index: &mut Index<'_, K, S>, mask: &mut Mask, ask: Ask<K>) -> Answer
-    ensures did { Did K.Key.below S.Scheme.table S.Scheme.strict S.Scheme.acts (lent_state index.old) (call_on index.old (what_of ask.request) ask.seat ask.level) result (lent_state index.new) }
-    ensures runs { Continues K.Key.below S.Scheme.table S.Scheme.strict S.Scheme.acts (lent_state index.old) (call_on index.old (what_of ask.request) ask.seat ask.level) result (lent_state index.new) }
-    ensures same { SameLent index.old index.new }
+    ensures called { CalledOn K.Key.below S.Scheme.table S.Scheme.strict S.Scheme.acts index.old (what_of ask.request) ask.seat ask.level result index.new }
 {
     mask.level = ask.level;
     make_call(index, mask, ask.seat, ask.request)

@@ -1,13 +1,15 @@
 -- What an index is lent, as the definitions of one call have it. Assumes nothing.
-use Rattle.std.specs.Prelude.{◌≡◌, List, length}
+use Rattle.std.specs.Prelude.{◌≡◌, ℕ, Bool, List, length}
 use Rattle.std.specs.Borrow.{MutBor}
 use Rattle.list_cells.specs.declared.cell.Cell as declared
 use Rattle.list_cells.specs.declared.cell.Anchor as declared-anchor
 use Rattle.list_window.specs.declared.row.Row as declared-row
 use Rattle.list_window.specs.declared.index.Index as declared-index
 use Rattle.list_cells.specs.Views.{lent_memory}
-use Rattle.list_window.specs.Applied.{state_of}
-use Rattle.list_law.specs.Call.{State, Memory}
+use Rattle.basis.specs.declared.answer.Answer.{Answer}
+use Rattle.marks.specs.Meaning.{Table, Order}
+use Rattle.list_window.specs.Applied.{state_of, Applied}
+use Rattle.list_law.specs.Call.{State, Memory, Effect}
 
 -- what the lent memory of an index holds
 abbrev pub lent_state : {K M : Type 0} → declared-index.Index K M → State K M
@@ -36,3 +38,8 @@ pub record SameLent {K M : Type 0} (i j : declared-index.Index K M) : Type 0 whe
   pub scheme_there : j.scheme.ghost_name ≡ i.scheme.ghost_name
   pub cells : length j.cells.now ≡ length i.cells.now
   pub rows : length j.rows.now ≡ length i.rows.now
+
+-- an effect of seat t, applied to what index i is lent, with this answer, leaves index j, over the same memory
+pub record AppliedTo {K M : Type 0} (table : M → Table) (strict : Bool) (acts : Order → M → M → Type 0) (t : ℕ) (f : Effect K) (i : declared-index.Index K M) (a : Answer) (j : declared-index.Index K M) : Type 0 where
+  pub applied : Applied table strict acts t f (lent_state i) a (lent_state j)
+  pub same : SameLent i j

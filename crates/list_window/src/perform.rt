@@ -3,8 +3,7 @@ ghost use Rattle.std.specs.Prelude.{◌≡◌, map};
 ghost use Rattle.list_law.specs.Call.{row_at, turn, turn_effect};
 ghost use Rattle.list_window.specs.Rows.{row_of, doing_of};
 ghost use Rattle.list_window.specs.Turns.{what_of, turn_of};
-ghost use Rattle.list_window.specs.Applied.{Applied};
-ghost use Rattle.list_window.specs.Lent.{lent_state, window_memory, SameLent};
+ghost use Rattle.list_window.specs.Lent.{window_memory, AppliedTo};
 
 use crate::index::Index;
 use crate::row::Doing;
@@ -19,8 +18,7 @@ use marks::scheme::Scheme;
 impl<K: Key, S: Scheme> Index<'_, K, S> {
     // The row becomes another one, with or without a release of the seat's mark.
     fn change_row(&mut self, seat: Seat, doing: Doing<K>, releases: bool) -> Answer
-        ensures applied { Applied S.Scheme.table S.Scheme.strict S.Scheme.acts seat.number (turn_effect K.Key.below (window_memory self.old) seat.number self.old.anchor.now.window (S.Scheme.table self.old.scheme.now seat.number) (turn_of seat.number (Turn.Becomes doing releases))) (lent_state self.old) result (lent_state self.new) }
-        ensures same { SameLent self.old self.new }
+        ensures { AppliedTo S.Scheme.table S.Scheme.strict S.Scheme.acts seat.number (turn_effect K.Key.below (window_memory self.old) seat.number self.old.anchor.now.window (S.Scheme.table self.old.scheme.now seat.number) (turn_of seat.number (Turn.Becomes doing releases))) self.old result self.new }
     {
         put_row(self.rows, seat, doing);
         if releases {
@@ -40,8 +38,7 @@ impl<K: Key, S: Scheme> Index<'_, K, S> {
     #[inline(always)]
     pub fn perform(&mut self, guard: &Guard, seat: Seat, request: Request<K>) -> Answer
         requires { guard.now.mask.now.level ≡ 7 }
-        ensures applied { Applied S.Scheme.table S.Scheme.strict S.Scheme.acts seat.number (turn_effect K.Key.below (window_memory self.old) seat.number self.old.anchor.now.window (S.Scheme.table self.old.scheme.now seat.number) (turn seat.number (row_at (map row_of self.old.rows.now) seat.number) (what_of request))) (lent_state self.old) result (lent_state self.new) }
-        ensures same { SameLent self.old self.new }
+        ensures { AppliedTo S.Scheme.table S.Scheme.strict S.Scheme.acts seat.number (turn_effect K.Key.below (window_memory self.old) seat.number self.old.anchor.now.window (S.Scheme.table self.old.scheme.now seat.number) (turn seat.number (row_at (map row_of self.old.rows.now) seat.number) (what_of request))) self.old result self.new }
     {
         match turn_at(seat, self.doing(seat), request) {
             Err(refusal) => Answer::Refused(refusal),

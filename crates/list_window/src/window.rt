@@ -3,8 +3,7 @@ ghost use Rattle.std.specs.Prelude.{◌≡◌, pred, map, slice_get};
 ghost use Rattle.marks.specs.Marks.{numbered};
 ghost use Rattle.list_law.specs.Call.{reach, refused, ended, waiting, unlinked, on_present, taken_from, on_absent, decided, walked, window};
 ghost use Rattle.list_cells.specs.Views.{cell_of, found_of, met_of};
-ghost use Rattle.list_window.specs.Applied.{Applied};
-ghost use Rattle.list_window.specs.Lent.{lent_state, window_memory, SameLent};
+ghost use Rattle.list_window.specs.Lent.{window_memory, AppliedTo};
 
 use crate::index::Index;
 use crate::row::Doing;
@@ -20,6 +19,7 @@ use list_cells::walk::{Met, cell_at, walk_from};
 use marks::scheme::Scheme;
 
 // How many cells the next window of a seat may meet, by the anchor's window and the seat's mark.
+#[tactic(auto, unfolding(list_law::specs::Call::reach))]
 fn width(seat: Seat, window: u8, mark: Option<Place>) -> u8
     ensures { result ≡ reach seat.number window (numbered mark) }
 {
@@ -45,8 +45,7 @@ impl<K: Key, S: Scheme> Index<'_, K, S> {
     // The operation has its answer: the row becomes idle, and the mark is released.
     #[inline(always)]
     fn end_operation(&mut self, seat: Seat, answer: Answer) -> Answer
-        ensures applied { Applied S.Scheme.table S.Scheme.strict S.Scheme.acts seat.number (ended seat.number answer (window_memory self.old)) (lent_state self.old) result (lent_state self.new) }
-        ensures same { SameLent self.old self.new }
+        ensures { AppliedTo S.Scheme.table S.Scheme.strict S.Scheme.acts seat.number (ended seat.number answer (window_memory self.old)) self.old result self.new }
     {
         self.scheme.release(seat);
         put_row(self.rows, seat, Doing::Idle);
@@ -56,8 +55,7 @@ impl<K: Key, S: Scheme> Index<'_, K, S> {
     // The window is used up at a place, which the seat marks.
     #[inline(always)]
     fn wait_at(&mut self, seat: Seat, place: Place) -> Answer
-        ensures applied { Applied S.Scheme.table S.Scheme.strict S.Scheme.acts seat.number (waiting seat.number place.number (window_memory self.old)) (lent_state self.old) result (lent_state self.new) }
-        ensures same { SameLent self.old self.new }
+        ensures { AppliedTo S.Scheme.table S.Scheme.strict S.Scheme.acts seat.number (waiting seat.number place.number (window_memory self.old)) self.old result self.new }
     {
         self.scheme.release(seat);
         self.scheme.reserve(seat, place);
@@ -72,8 +70,7 @@ impl<K: Key, S: Scheme> Index<'_, K, S> {
         place: Place,
         link: Option<Place>,
     ) -> Answer
-        ensures applied { Applied S.Scheme.table S.Scheme.strict S.Scheme.acts seat.number (unlinked seat.number (numbered lead) place.number (numbered link) (window_memory self.old)) (lent_state self.old) result (lent_state self.new) }
-        ensures same { SameLent self.old self.new }
+        ensures { AppliedTo S.Scheme.table S.Scheme.strict S.Scheme.acts seat.number (unlinked seat.number (numbered lead) place.number (numbered link) (window_memory self.old)) self.old result self.new }
     {
         unlink(self.cells, self.anchor, lead, place, link);
         self.scheme.revoke(place);
@@ -97,8 +94,7 @@ impl<K: Key, S: Scheme> Index<'_, K, S> {
         lead: Option<Place>,
         link: Option<Place>,
     ) -> Answer
-        ensures applied { Applied S.Scheme.table S.Scheme.strict S.Scheme.acts seat.number (taken_from target seat.number (numbered lead) (numbered link) (window_memory self.old) (numbered self.old.anchor.now.free)) (lent_state self.old) result (lent_state self.new) }
-        ensures same { SameLent self.old self.new }
+        ensures { AppliedTo S.Scheme.table S.Scheme.strict S.Scheme.acts seat.number (taken_from target seat.number (numbered lead) (numbered link) (window_memory self.old) (numbered self.old.anchor.now.free)) self.old result self.new }
     {
         let Some(place) = self.anchor.free else {
             return self.end_operation(seat, Answer::Full);
@@ -123,8 +119,7 @@ impl<K: Key, S: Scheme> Index<'_, K, S> {
         place: Place,
         link: Option<Place>,
     ) -> Answer
-        ensures applied { Applied S.Scheme.table S.Scheme.strict S.Scheme.acts seat.number (on_present kind seat.number (numbered lead) place.number (numbered link) (window_memory self.old)) (lent_state self.old) result (lent_state self.new) }
-        ensures same { SameLent self.old self.new }
+        ensures { AppliedTo S.Scheme.table S.Scheme.strict S.Scheme.acts seat.number (on_present kind seat.number (numbered lead) place.number (numbered link) (window_memory self.old)) self.old result self.new }
     {
         match kind {
             Kind::Lookup => self.end_operation(seat, Answer::Yes),
@@ -142,8 +137,7 @@ impl<K: Key, S: Scheme> Index<'_, K, S> {
         lead: Option<Place>,
         link: Option<Place>,
     ) -> Answer
-        ensures applied { Applied S.Scheme.table S.Scheme.strict S.Scheme.acts seat.number (on_absent kind target seat.number (numbered lead) (numbered link) (window_memory self.old)) (lent_state self.old) result (lent_state self.new) }
-        ensures same { SameLent self.old self.new }
+        ensures { AppliedTo S.Scheme.table S.Scheme.strict S.Scheme.acts seat.number (on_absent kind target seat.number (numbered lead) (numbered link) (window_memory self.old)) self.old result self.new }
     {
         match kind {
             Kind::Lookup => self.end_operation(seat, Answer::No),
@@ -155,8 +149,7 @@ impl<K: Key, S: Scheme> Index<'_, K, S> {
     // What a window does, by where its walk ended.
     #[inline(always)]
     fn decide(&mut self, seat: Seat, kind: Kind, target: K, met: Option<Met>) -> Answer
-        ensures applied { Applied S.Scheme.table S.Scheme.strict S.Scheme.acts seat.number (decided kind target seat.number (window_memory self.old) (met_of met)) (lent_state self.old) result (lent_state self.new) }
-        ensures same { SameLent self.old self.new }
+        ensures { AppliedTo S.Scheme.table S.Scheme.strict S.Scheme.acts seat.number (decided kind target seat.number (window_memory self.old) (met_of met)) self.old result self.new }
     {
         match met {
             None => Answer::Refused(Refusal::BadLink),
@@ -179,8 +172,7 @@ impl<K: Key, S: Scheme> Index<'_, K, S> {
     // One window of a running seat.
     #[inline(always)]
     pub fn run_window(&mut self, seat: Seat, kind: Kind, target: K) -> Answer
-        ensures applied { Applied S.Scheme.table S.Scheme.strict S.Scheme.acts seat.number (window K.Key.below (window_memory self.old) seat.number self.old.anchor.now.window (S.Scheme.table self.old.scheme.now seat.number) kind target) (lent_state self.old) result (lent_state self.new) }
-        ensures same { SameLent self.old self.new }
+        ensures { AppliedTo S.Scheme.table S.Scheme.strict S.Scheme.acts seat.number (window K.Key.below (window_memory self.old) seat.number self.old.anchor.now.window (S.Scheme.table self.old.scheme.now seat.number) kind target) self.old result self.new }
     {
         let met = self.walk(seat, target);
         self.decide(seat, kind, target, met)

@@ -1,10 +1,10 @@
 // The worked examples run, and each scheme at its edges: shared slots, the last counter, banks that do not meet.
-use basis::bounded::{BankBit, Place, Seat};
 use crate::examples::{
     counts_decide_first, examples_hold, owner_loses_its_slot, slots_of_3_and_19,
     version_starts_again,
 };
 use crate::uses::{beside_another_in_nested, revoked_at_each};
+use basis::bounded::{BankBit, Place, Seat};
 use marks::full::Full;
 use marks::owner::Owner;
 use marks::pair::Pair;

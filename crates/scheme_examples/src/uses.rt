@@ -9,8 +9,8 @@ ghost use Rattle.marks.specs.Version.{version_state, version_act};
 ghost use Rattle.marks.specs.Pair.{uses_second};
 ghost use Rattle.scheme_examples.specs.Nested.{nested_acts};
 
-use basis::bounded::{BankBit, Place, Seat};
 use crate::generic::{mark_beside_another, move_mark, reserve_and_revoke};
+use basis::bounded::{BankBit, Place, Seat};
 use marks::full::Full;
 use marks::owner::Owner;
 use marks::pair::Pair;

@@ -14,8 +14,11 @@ use Rattle.list_law.specs.Call.{State, Did}
 use Rattle.list_law.proofs.Lists.{clash}
 use Rattle.list_cells.specs.declared.cell.Cell as declared
 use Rattle.list_cells.specs.Views.{cell_of}
+use Rattle.list_window.specs.declared.index.Index.{Index}
+use Rattle.list_window.specs.Lent.{lent_state}
 use Rattle.list.specs.declared.slip.Slip.{Slip}
 use Rattle.list.specs.declared.slip.Kept.{Kept}
+use Rattle.list.specs.Calls.{call_on, CalledOn}
 use Rattle.list.specs.Slips.{left, Held}
 use Rattle.list.proofs.Held.{stays_held}
 use Rattle.tasks.specs.declared.station.Station.{Station}
@@ -62,13 +65,11 @@ held_at {s = s} e h = subst (Held s) (sym e) h
 pub held_in : {K M : Type 0} {s s' : State K M} {t : ℕ} → s ≡ s' → Held s t → Held s' t
 held_in {t = t} e h = subst (λ s. Held s t) e h
 
--- the same call, and the same answer
-pub called_as : {M : Type 0} {table : M → Table} {strict : Bool} {acts : Order → M → M → Type 0} {s : State Wear M} {c c' : Call Wear} {a a' : Answer} {s' : State Wear M} → c ≡ c' → a ≡ a' → Called table strict acts s c a s' → Called table strict acts s c' a' s'
-called_as {table = table} {strict = strict} {acts = acts} {s = s} {s' = s'} e f h = subst (λ (x : Call Wear × Answer). Called table strict acts s x.0 x.1 s') (λ i. (e i, f i)) h
-
--- the same states
-pub did_between : {M : Type 0} {table : M → Table} {strict : Bool} {acts : Order → M → M → Type 0} {s t : State Wear M} {c : Call Wear} {a : Answer} {s' t' : State Wear M} → s ≡ t → s' ≡ t' → Did wear_below table strict acts s c a s' → Did wear_below table strict acts t c a t'
-did_between {M = M} {table = table} {strict = strict} {acts = acts} {c = c} {a = a} e f h = subst (λ (x : State Wear M × State Wear M). Did wear_below table strict acts x.0 c a x.1) (λ i. (e i, f i)) h
+-- what a call did to an index, told of the states that it was over before and after
+pub called_over : {M : Type 0} {table : M → Table} {strict : Bool} {acts : Order → M → M → Type 0} {i j : Index Wear M} {what : What Wear} {t level : ℕ} {s s' : State Wear M} {c : Call Wear} {a : Answer}
+    → lent_state i ≡ s → lent_state j ≡ s' → call_on i what t level ≡ c → CalledOn wear_below table strict acts i what t level a j → Called table strict acts s c a s'
+called_over {M = M} {table = table} {strict = strict} {acts = acts} {a = a} before after is h =
+    subst (λ (x : State Wear M × Call Wear × State Wear M). Called table strict acts x.0 x.1 a x.2) (λ i. (before i, is i, after i)) (record { did = h.did; runs = h.runs })
 
 -- a call that is no leave leaves both tasks there
 pub stays_manned : {M : Type 0} {table : M → Table} {strict : Bool} {acts : Order → M → M → Type 0} (d d' : Station M) (c : Call Wear) (a : Answer) → Did wear_below table strict acts (state d) c a (state d')

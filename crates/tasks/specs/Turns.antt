@@ -21,7 +21,7 @@ asked (ask.Begin k x) = begin k x
 asked ask.Step = step
 asked ask.Abandon = abandon
 
--- a call on wear keys led from s to s' with this answer, and the run goes on with it and is lawful
+-- a call on wear keys led from s to s' with this answer, and the run goes on with it and is lawful: what CalledOn says of an index, said of its states
 pub record Called {M : Type 0} (table : M → Table) (strict : Bool) (acts : Order → M → M → Type 0) (s : State Wear M) (c : Call Wear) (a : Answer) (s' : State Wear M) : Type 0 where
   pub did : Did wear_below table strict acts s c a s'
   pub runs : Continues wear_below table strict acts s c a s'

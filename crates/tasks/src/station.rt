@@ -1,7 +1,7 @@
 // An index with two tasks at it, each with a slip in hand.
 ghost use Rattle.std.specs.Prelude.{◌≡◌, ◌<◌, map, length, Some, IfOk, IfErr, MatchResult};
-ghost use Rattle.list_window.specs.Lent.{lent_state, SameLent};
-ghost use Rattle.list.specs.Calls.{call_on};
+ghost use Rattle.keys.specs.Wear.{wear_below};
+ghost use Rattle.list.specs.Calls.{CalledOn};
 ghost use Rattle.tasks.specs.Turns.{asked, Called};
 ghost use Rattle.marks.specs.Marks.{numbered};
 ghost use Rattle.tasks.specs.Stations.{state, call, Manned, Marked, Same, Watches, Plays, not_opened, Begun, Ran};
@@ -32,9 +32,8 @@ pub struct Station<S> {
 
 // The call that is asked, made by showing a slip.
 fn show<S: Scheme>(slip: &Slip, index: &mut Index<'_, Wear, S>, mask: &mut Mask, ask: Ask) -> Answer
-    ensures called { Called S.Scheme.table S.Scheme.strict S.Scheme.acts (lent_state index.old) (call_on index.old (asked ask) slip.now.seat mask.old.level) result (lent_state index.new) }
+    ensures called { CalledOn wear_below S.Scheme.table S.Scheme.strict S.Scheme.acts index.old (asked ask) slip.now.seat mask.old.level result index.new }
     ensures level { mask.new.level ≡ mask.old.level }
-    ensures same { SameLent index.old index.new }
 {
     match ask {
         Ask::Begin { kind, target } => Answer::from(slip.begin(index, mask, kind, target)),

@@ -10,8 +10,8 @@ use Rattle.list.specs.Calls.{call_on}
 use Rattle.list.proofs.Effects.{did_refuse, did_perform}
 use Rattle.list.proofs.call.make_call.Goals as goal
 
-pub returns-in-Err : goal.returns-in-Err
-returns-in-Err g c =
+pub returns-in-Err-clause-called : goal.returns-in-Err-clause-called
+returns-in-Err-clause-called g c =
     let key = g.met.K.Key in
     let order : Total g.K.Key.below = record { irreflexive = key.irreflexive; transitive = key.transitive; same_transitive = key.same_transitive } in
     let index = c.args.index.now in
@@ -20,13 +20,12 @@ returns-in-Err g c =
     let did = did_refuse g.K.Key.below g.S.Scheme.table g.S.Scheme.strict g.S.Scheme.acts lent call c.in-Err.refusal c.in-Err.ensures in
     record {
       did = did;
-      level = search rules;
       runs = continues g.K.Key.below order g.S.Scheme.table g.S.Scheme.strict g.S.Scheme.acts lent call _ lent (sym (length-map index.cells.now cell_of)) (sym (length-map index.rows.now row_of)) did;
       same = search rules;
     }
 
-pub returns : goal.returns
-returns g c =
+pub returns-clause-called : goal.returns-clause-called
+returns-clause-called g c =
     let key = g.met.K.Key in
     let order : Total g.K.Key.below = record { irreflexive = key.irreflexive; transitive = key.transitive; same_transitive = key.same_transitive } in
     let index = c.args.index.now in
@@ -35,7 +34,6 @@ returns g c =
     let did = did_perform g.K.Key.below g.S.Scheme.table g.S.Scheme.strict g.S.Scheme.acts lent call c.in-Ok.taken.number c.in-Ok.ensures.0 c.in-Ok.ensures.1 c.perform.ensures.applied in
     record {
       did = did;
-      level = search rules;
       runs = continues g.K.Key.below order g.S.Scheme.table g.S.Scheme.strict g.S.Scheme.acts lent call _ _ (sym (length-map index.cells.now cell_of)) (sym (length-map index.rows.now row_of)) did;
       same = c.perform.ensures.same;
     }

@@ -1,6 +1,6 @@
 -- Each turn is one call more of the run, and one answer more.
 use Rattle.std.proofs.Common.{◌≡◌, [], ◌∷◌, ◌++◌, map, length, take, sym, ap, ◌∙◌, arith, rules}
-use Rattle.std.proofs.lemmas.List.{take_all, take_more, take_more_set, get_or-map, length-map}
+use Rattle.std.proofs.lemmas.List.{take_more, take_more_set, get_or-map, length-map}
 use Rattle.list_law.specs.Performed.{called}
 use Rattle.list_law.specs.Driven.{asked}
 use Rattle.list_law.proofs.Driven.{driven_more, driven_as}
@@ -29,18 +29,6 @@ loop-at-preserved g c =
     λ i. record { what = what_of ask.request; seat = ask.seat; level = ask.level; cells = sym (length-map index.cells.now cell_of) i; rows = sym (length-map index.rows.now row_of) i } in
     let one = take_more (map ask_of asks) at (ask_of ask) (omega (arith, length-map asks ask_of)) ∙ ap (λ k. take at (map ask_of asks) ++ k ∷ []) (get_or-map ask_of asks at ask (ask_of ask) (omega arith) ∙ ap ask_of (sym c.index-asks-at.is)) in (
       driven_as g.K.Key.below scheme.table scheme.strict scheme.acts n w (sym one) (sym (take_more_set c.loop-at.answers at c.run_ask.result (omega (arith, c.loop-at.auto.answers, c.requires.0))))
-          (driven_more g.K.Key.below scheme.table scheme.strict scheme.acts n w _ _ _ before (ask_of ask) _ c.run_ask.result _ call own c.loop-at.invariant.0 c.run_ask.ensures.did c.run_ask.ensures.runs),
+          (driven_more g.K.Key.below scheme.table scheme.strict scheme.acts n w _ _ _ before (ask_of ask) _ c.run_ask.result _ call own c.loop-at.invariant.0 c.run_ask.ensures.called.did c.run_ask.ensures.called.runs),
       search rules,
     )
-
-pub returns : goal.returns
-returns g c =
-    let scheme = g.S.Scheme in
-    let asks = c.args.asks.now in
-    record {
-      driven = driven_as g.K.Key.below scheme.table scheme.strict scheme.acts (length c.args.index.now.cells.now) c.args.index.now.anchor.now.window
-          (take_all c.loop-at.at (map ask_of asks) (omega (arith, length-map asks ask_of)))
-          (take_all c.loop-at.at c.loop-at.answers (omega (arith, c.loop-at.auto.answers, c.requires.0)))
-          c.loop-at.invariant.0;
-      same = c.loop-at.invariant.1;
-    }

@@ -1,7 +1,7 @@
 -- Making begins the run that the calls go on with, or refuses, and then nothing is altered.
-use Rattle.std.proofs.Common.{◌≡◌, ℕ, Bool, true, false, cond, ◌&&◌, eqb, List, map, length, refl, sym, ap, ◌∙◌, rules}
+use Rattle.std.proofs.Common.{◌≡◌, ℕ, Bool, true, false, cond, ◌&&◌, List, map, length, refl, sym, ap, ◌∙◌, rules}
 use Rattle.std.proofs.lemmas.List.{length-map}
-use Rattle.std.proofs.lemmas.Bool.{both_ways, cond-true, cond-false, eq-eqb, eqb-true}
+use Rattle.std.proofs.lemmas.Bool.{both_ways, cond-true, cond-false, eq-eqb}
 use Rattle.basis.specs.declared.answer.Answer.TheVariants.{Ok, Refused}
 use Rattle.basis.specs.declared.refusal.Refusal.{Refusal}
 use Rattle.basis.specs.declared.refusal.Refusal.TheVariants.{WrongSizes}
@@ -28,24 +28,8 @@ refused false q e = refl
 
 -- whether the calls can be run, by the test of their number and the answer of the making
 module _ {X Y Z W Q V : Type 0} (f : X → Y) (h : Z → W) (v : Q → V) (cells : List X) (rows : List Z) (w : ℕ) (asks : List Q) (answers : ℕ) where
-  by_number : runnable (length cells) (length rows) w (length (map v asks)) answers ≡ (eqb (length asks) answers && makes (length cells) (length rows) w)
-  by_number = ap (λ k. runnable (length cells) (length rows) w k answers) (length-map asks v)
-
-  too_many : (length asks ≡ answers → ⊥) → runnable (length cells) (length rows) w (length (map v asks)) answers ≡ false
-  too_many apart = by_number ∙ by (eqb (length asks) answers) refl
-    where
-      by : (b : Bool) → eqb (length asks) answers ≡ b → (eqb (length asks) answers && makes (length cells) (length rows) w) ≡ false
-      by true e = absurd (apart (eqb-true _ _ e))
-      by false e = ap (λ b. b && makes (length cells) (length rows) w) e
-
   as_made : length asks ≡ answers → runnable (length cells) (length rows) w (length (map v asks)) answers ≡ makes (length (map f cells)) (length (map h rows)) w
-  as_made e = by_number ∙ ap (λ b. b && makes (length cells) (length rows) w) (eq-eqb _ _ e) ∙ viewed f h cells rows w
-
-pub returns-then-asks-answers-clause-ran : goal.returns-then-asks-answers-clause-ran
-returns-then-asks-answers-clause-ran g c =
-    let index = c.args.index.now in
-    let no = too_many cell_of row_of ask_of index.cells.now index.rows.now c.args.window c.args.asks.now (length c.args.answers.now) c.if-asks-answers.true in
-    record { answer = sym (cond-false _ _ _ no); driven = λ t. absurd (both_ways _ no t); same = λ _. (refl, refl) }
+  as_made e = ap (λ k. runnable (length cells) (length rows) w k answers) (length-map asks v) ∙ ap (λ b. b && makes (length cells) (length rows) w) (eq-eqb _ _ e) ∙ viewed f h cells rows w
 
 pub returns-in_err-make-clause-ran : goal.returns-in_err-make-clause-ran
 returns-in_err-make-clause-ran g c =

@@ -1,10 +1,10 @@
 -- Making refuses sizes that do not fit, and else leaves what the definition says.
-use Rattle.std.proofs.Common.{◌≡◌, ◌≤◌, List, [], ◌∷◌, map, length, replicate, Some, None, sym, refl, ap, ◌∙◌, arith, rules}
+use Rattle.std.proofs.Common.{◌≡◌, ◌≤◌, List, [], ◌∷◌, map, length, replicate, Some, None, sym, refl, ap, ◌∙◌, arith}
 use Rattle.std.proofs.lemmas.List.{length-map}
 use Rattle.keys.specs.Total.{Total}
 use Rattle.list_law.specs.Call.{Link, away}
 use Rattle.list_law.specs.Runs.{onward}
-use Rattle.list_law.proofs.Made.{fits, makes_refused, makes_accepted}
+use Rattle.list_law.proofs.Made.{fits, makes_accepted}
 use Rattle.list_cells.specs.Views.{cell_of}
 use Rattle.list_window.specs.Rows.{row_of}
 use Rattle.list_window.specs.Lent.{lent_state}
@@ -16,19 +16,8 @@ first_free : {X : Type 0} (xs : List X) → 1 ≤ length xs → ◌≡◌ {A = L
 first_free [] h = absurd (omega arith)
 first_free (x ∷ xs) h = refl
 
-pub returns-then-not-sizes_fit : goal.returns-then-not-sizes_fit
-returns-then-not-sizes_fit g c =
-    let key = g.met.K.Key in
-    let order : Total g.K.Key.below = record { irreflexive = key.irreflexive; transitive = key.transitive; same_transitive = key.same_transitive } in
-    let index = c.args.index.now in
-    record {
-      made = makes_refused g.K.Key.below order g.S.Scheme.table g.S.Scheme.strict g.S.Scheme.acts (lent_state index) c.args.window
-          (sym (c.if-not-sizes_fit.ensures ∙ viewed cell_of row_of index.cells.now index.rows.now c.args.window));
-      same = search rules;
-    }
-
-pub returns : goal.returns
-returns g c =
+pub returns-clause-made : goal.returns-clause-made
+returns-clause-made g c =
     let key = g.met.K.Key in
     let order : Total g.K.Key.below = record { irreflexive = key.irreflexive; transitive = key.transitive; same_transitive = key.same_transitive } in
     let index = c.args.index.now in
@@ -39,10 +28,7 @@ returns g c =
     let right = sym c.if-not-sizes_fit.ensures in
     let sized = fits (length cells) (length rows) w right in
     let anchor = c.fresh_anchor-index.ensures ∙ (λ i. record { count = sym (length-map cells cell_of) i; window = w; head = None; free = first_free (map cell_of cells) (omega (arith, length-map cells cell_of, sized.sizes.some_cells)) i }) in
-    record {
-      made = makes_accepted g.K.Key.below order g.S.Scheme.table g.S.Scheme.strict g.S.Scheme.acts (lent_state index) w _
-          (sym (viewed cell_of row_of cells rows w) ∙ right)
-          (λ i. record { cells = c.free_cells.ensures i; rows = (c.clear_rows.ensures ∙ ap (λ n. replicate n away) sized.rows) i; anchor = anchor i; marks = marks })
-          c.release_all.ensures;
-      same = search rules;
-    }
+    makes_accepted g.K.Key.below order g.S.Scheme.table g.S.Scheme.strict g.S.Scheme.acts (lent_state index) w _
+    (sym (viewed cell_of row_of cells rows w) ∙ right)
+    (λ i. record { cells = c.free_cells.ensures i; rows = (c.clear_rows.ensures ∙ ap (λ n. replicate n away) sized.rows) i; anchor = anchor i; marks = marks })
+    c.release_all.ensures

@@ -18,16 +18,16 @@ use Rattle.tasks.proofs.station.Station.open.Goals as goal
 
 pub unwrap-requires : goal.unwrap-requires
 unwrap-requires g c =
-    let first = joined_held _ _ _ _ _ _ _ _ c.in_ok-host.ensures.did (as_long _ _ c.join.ensures.same.cells) refl refl in
-    let held = stays_held _ _ _ _ _ _ _ _ c.in-Err.ensures.did (as_long _ _ c.join-2.ensures.same.cells) _ (inl join_apart) first.held in
+    let first = joined_held _ _ _ _ _ _ _ _ c.in_ok-host.ensures.called.did (as_long _ _ c.join.ensures.called.same.cells) refl refl in
+    let held = stays_held _ _ _ _ _ _ _ _ c.in-Err.ensures.called.did (as_long _ _ c.join-2.ensures.called.same.cells) _ (inl join_apart) first.held in
     let level = c.in-Err.ensures.level ∙ c.in_ok-host.ensures.level in
-    ok_left _ (leave_accepted _ _ _ _ _ _ _ _ c.leave.ensures.did (as_long _ _ c.leave.ensures.same.cells) refl (ap (λ l. ltb l 7) level) (held_at c.in_ok-host.ensures.seat held))
+    ok_left _ (leave_accepted _ _ _ _ _ _ _ _ c.leave.ensures.called.did (as_long _ _ c.leave.ensures.called.same.cells) refl (ap (λ l. ltb l 7) level) (held_at c.in_ok-host.ensures.seat held))
 
 pub returns-in-Ok-clause-manned : goal.returns-in-Ok-clause-manned
 returns-in-Ok-clause-manned g c =
-    let first = joined_held _ _ _ _ _ _ _ _ c.in_ok-host.ensures.did (as_long _ _ c.join.ensures.same.cells) refl refl in
-    let second = joined_held _ _ _ _ _ _ _ _ c.in-Ok.ensures.did (as_long _ _ c.join-2.ensures.same.cells) refl refl in
-    let held = stays_held _ _ _ _ _ _ _ _ c.in-Ok.ensures.did (as_long _ _ c.join-2.ensures.same.cells) _ (inl join_apart) first.held in
+    let first = joined_held _ _ _ _ _ _ _ _ c.in_ok-host.ensures.called.did (as_long _ _ c.join.ensures.called.same.cells) refl refl in
+    let second = joined_held _ _ _ _ _ _ _ _ c.in-Ok.ensures.called.did (as_long _ _ c.join-2.ensures.called.same.cells) refl refl in
+    let held = stays_held _ _ _ _ _ _ _ _ c.in-Ok.ensures.called.did (as_long _ _ c.join-2.ensures.called.same.cells) _ (inl join_apart) first.held in
     manned_by _ _ _ c.in_ok-host.ensures.seat c.in-Ok.ensures.seat (held_in (search rules) held) (held_in (search rules) second.held) (λ e. first.held.row (ap (row_at _) e ∙ second.was)) (c.in-Ok.ensures.level ∙ c.in_ok-host.ensures.level)
 
 pub returns-in-Ok-clause-begun : goal.returns-in-Ok-clause-begun
@@ -40,8 +40,8 @@ returns-in-Ok-clause-begun g c =
     let long = c.make.ensures.same.cells ∙ cells in
     let rows = c.make.ensures.same.rows ∙ ap length there.rows_now in
     let start = driven_at (length-map index.cells.now cell_of ∙ cells) refl (driven_none wear_below g.S.Scheme.table g.S.Scheme.strict g.S.Scheme.acts _ _ _ (made.runs fits)) in
-    let one = joins c.args.host _ c.make.new.index long rows refl start c.in_ok-host.ensures.did c.in_ok-host.ensures.runs in
-    let two = joins c.args.cleaner _ c.join.new.index (c.join.ensures.same.cells ∙ long) (c.join.ensures.same.rows ∙ rows) c.in_ok-host.ensures.level one c.in-Ok.ensures.did c.in-Ok.ensures.runs in
+    let one = joins c.args.host _ c.make.new.index long rows refl start c.in_ok-host.ensures.called.did c.in_ok-host.ensures.called.runs in
+    let two = joins c.args.cleaner _ c.join.new.index (c.join.ensures.called.same.cells ∙ long) (c.join.ensures.called.same.rows ∙ rows) c.in_ok-host.ensures.level one c.in-Ok.ensures.called.did c.in-Ok.ensures.called.runs in
     record { cells = search rules; lent = lent_state index; of_cells = ap (map cell_of) there.cells_now; of_scheme = there.scheme_now; start = _; made = made; run = driven_to (search rules) two }
 
 pub returns-in_err-host-clause-refused : goal.returns-in_err-host-clause-refused
@@ -56,7 +56,7 @@ returns-in_err-host-clause-refused g c =
     let is = made.made fits in
     let after = c.make.new.index in
     let sizes = sizes_right (length c.args.cells) c.args.window (map cell_of after.cells.now) (anchor_of after.anchor.now) (length-map after.cells.now cell_of ∙ c.make.ensures.same.cells ∙ ap length there.cells_now) (ap (λ s. s.anchor.count) is ∙ cells) (ap (λ s. s.anchor.window) is) right in
-    let why = refused_away _ _ _ _ c.in_err-host.ensures.did refl refl sizes (ap (λ s. length s.rows) is) (ap (λ s. row_at s.rows c.args.host) is ∙ all_away 16 c.args.host) in
+    let why = refused_away _ _ _ _ c.in_err-host.ensures.called.did refl refl sizes (ap (λ s. length s.rows) is) (ap (λ s. row_at s.rows c.args.host) is ∙ all_away 16 c.args.host) in
     let refusal : not_opened (length c.args.cells) c.args.window c.args.host c.args.cleaner ≡ Some c.in_err-host.field-0.0 = host_refused (length c.args.cells) c.args.window c.args.host c.args.cleaner right why.0 ∙ ap Some (sym why.1) in
     search rules
 
@@ -70,7 +70,7 @@ returns-in-Err-clause-refused g c =
     let rows = length-map index.rows.now row_of ∙ ap length there.rows_now in
     let right : makes (length c.args.cells) 16 c.args.window ≡ true = (λ i. makes (sym cells i) (sym rows i) c.args.window) ∙ fits in
     let is = made.made fits in
-    let first = joined_held _ _ _ _ _ _ _ _ c.in_ok-host.ensures.did (as_long _ _ c.join.ensures.same.cells) refl refl in
+    let first = joined_held _ _ _ _ _ _ _ _ c.in_ok-host.ensures.called.did (as_long _ _ c.join.ensures.called.same.cells) refl refl in
     let others : (c.args.cleaner ≢ c.args.host → row_at (map row_of c.join.new.index.rows.now) c.args.cleaner ≡ away) =
-    λ d. ap (λ rs. row_at rs c.args.cleaner) c.in_ok-host.ensures.did.rows ∙ other_row _ c.args.host c.args.cleaner _ d ∙ ap (λ s. row_at s.rows c.args.cleaner) is ∙ all_away 16 c.args.cleaner in
-    refused_second _ _ _ _ c.in-Err.ensures.did refl (ap (λ l. ltb l 7) c.in_ok-host.ensures.level) first.held.cells first.held.rows (length c.args.cells) c.args.window c.args.host right (lt-ltb c.args.host 16 first.held.seat) others
+    λ d. ap (λ rs. row_at rs c.args.cleaner) c.in_ok-host.ensures.called.did.rows ∙ other_row _ c.args.host c.args.cleaner _ d ∙ ap (λ s. row_at s.rows c.args.cleaner) is ∙ all_away 16 c.args.cleaner in
+    refused_second _ _ _ _ c.in-Err.ensures.called.did refl (ap (λ l. ltb l 7) c.in_ok-host.ensures.level) first.held.cells first.held.rows (length c.args.cells) c.args.window c.args.host right (lt-ltb c.args.host 16 first.held.seat) others
