@@ -1,7 +1,7 @@
 -- The seats of both tasks stay held, from call to call. Assumes nothing.
 use Rattle.std.specs.Prelude.{Result, IsOk}
 use Rattle.std.specs.declared.result.Result.TheVariants as result
-use Rattle.std.proofs.Common.{◌≡◌, ℕ, Bool, ◌≢◌, List, map, length, sym, refl, ap, ◌∙◌, subst, inl}
+use Rattle.std.proofs.Common.{◌≡◌, ℕ, Bool, ◌≢◌, List, map, length, sym, refl, ◌∙◌, subst, inl}
 use Rattle.std.proofs.lemmas.List.{length-map}
 use Rattle.basis.specs.declared.refusal.Refusal.{Refusal}
 use Rattle.basis.specs.declared.answer.Answer.TheVariants.{Ok, Refused}
@@ -10,22 +10,20 @@ use Rattle.keys.specs.declared.wear.Wear.{Wear}
 use Rattle.keys.specs.Wear.{wear_below}
 use Rattle.marks.specs.Meaning.{Table, Order}
 use Rattle.ledger.specs.Ledger.{What, Call, join, leave}
-use Rattle.list_law.specs.Call.{State, Did}
+use Rattle.list_law.specs.Call.{State}
 use Rattle.list_law.proofs.Lists.{clash}
 use Rattle.list_cells.specs.declared.cell.Cell as declared
 use Rattle.list_cells.specs.Views.{cell_of}
 use Rattle.list_window.specs.declared.index.Index.{Index}
 use Rattle.list_window.specs.Lent.{lent_state}
-use Rattle.list.specs.declared.slip.Slip.{Slip}
 use Rattle.list.specs.declared.slip.Kept.{Kept}
 use Rattle.list.specs.Calls.{call_on, CalledOn}
 use Rattle.list.specs.Slips.{left, Held}
 use Rattle.list.proofs.Held.{stays_held}
-use Rattle.tasks.specs.declared.station.Station.{Station}
 use Rattle.tasks.specs.declared.turn.Ask.{Ask}
 use Rattle.tasks.specs.declared.turn.Ask.TheVariants.{Begin, Step, Abandon}
 use Rattle.tasks.specs.Turns.{asked, Called}
-use Rattle.tasks.specs.Stations.{state, Manned}
+use Rattle.tasks.specs.Manned.{Manned}
 
 -- as many cells, as the definitions see them
 pub as_long : {K : Type 0} (cells cells' : List (declared.Cell K)) → length cells' ≡ length cells → length (map cell_of cells') ≡ length (map cell_of cells)
@@ -49,19 +47,11 @@ asked_apart (Begin k x) h = clash (cc)
 asked_apart Step h = clash (cc)
 asked_apart Abandon h = clash (cc)
 
--- both tasks are there, by the numbers of their seats
-pub manned_by : {S : Type 0} (d : Station S) (h k : ℕ) → d.host.seat ≡ h → d.cleaner.seat ≡ k → Held (state d) h → Held (state d) k → h ≢ k → d.mask.level ≡ 0 → Manned d
-manned_by d h k host cleaner held held' apart level = record {
-  host = subst (Held (state d)) (sym host) held;
-  cleaner = subst (Held (state d)) (sym cleaner) held';
-  apart = λ e. apart (sym host ∙ e ∙ cleaner);
-  level = level;
-}
-
 -- the same seat
 pub held_at : {K M : Type 0} {s : State K M} {t u : ℕ} → u ≡ t → Held s t → Held s u
 held_at {s = s} e h = subst (Held s) (sym e) h
 
+-- the same state
 pub held_in : {K M : Type 0} {s s' : State K M} {t : ℕ} → s ≡ s' → Held s t → Held s' t
 held_in {t = t} e h = subst (λ s. Held s t) e h
 
@@ -71,9 +61,18 @@ pub called_over : {M : Type 0} {table : M → Table} {strict : Bool} {acts : Ord
 called_over {M = M} {table = table} {strict = strict} {acts = acts} {a = a} before after is h =
     subst (λ (x : State Wear M × Call Wear × State Wear M). Called table strict acts x.0 x.1 a x.2) (λ i. (before i, is i, after i)) (record { did = h.did; runs = h.runs })
 
--- a call that is no leave leaves both tasks there
-pub stays_manned : {M : Type 0} {table : M → Table} {strict : Bool} {acts : Order → M → M → Type 0} (d d' : Station M) (c : Call Wear) (a : Answer) → Did wear_below table strict acts (state d) c a (state d')
-    → c.what ≢ leave → length d'.cells ≡ length d.cells → d'.host ≡ d.host → d'.cleaner ≡ d.cleaner → d'.mask.level ≡ d.mask.level → Manned d → Manned d'
-stays_manned {table = table} {strict = strict} {acts = acts} d d' c a did apart long host cleaner level m =
-    let keeps : (u : ℕ) → Held (state d) u → Held (state d') u = λ u h. stays_held wear_below table strict acts (state d) c a (state d') did (as_long d.cells d'.cells long) u (inl apart) h in
-    manned_by d' d.host.seat d.cleaner.seat (ap (λ (s : Slip). s.seat) host) (ap (λ (s : Slip). s.seat) cleaner) (keeps _ m.host) (keeps _ m.cleaner) m.apart (level ∙ m.level)
+-- both tasks are there, by the numbers of their seats
+pub manned_by : {M : Type 0} (s : State Wear M) {h k h' k' level : ℕ} → h' ≡ h → k' ≡ k → Held s h → Held s k → h ≢ k → level ≡ 0 → Manned s h' k' level
+manned_by s host cleaner held held' apart level = record {
+  host = held_at host held;
+  cleaner = held_at cleaner held';
+  apart = λ e. apart (sym host ∙ e ∙ cleaner);
+  level = level;
+}
+
+-- a call on an index that was over state s, and is no leave, leaves both tasks there
+pub stays_manned : {M : Type 0} {table : M → Table} {strict : Bool} {acts : Order → M → M → Type 0} {i j : Index Wear M} {what : What Wear} {t masked : ℕ} {a : Answer} {s : State Wear M} {h k level level' : ℕ}
+    → lent_state i ≡ s → CalledOn wear_below table strict acts i what t masked a j → what ≢ leave → level' ≡ level → Manned s h k level → Manned (lent_state j) h k level'
+stays_manned {i = i} {j = j} before called apart level m =
+    let keeps : (u : ℕ) → Held _ u → Held (lent_state j) u = λ u h. stays_held _ _ _ _ _ _ _ _ called.did (as_long i.cells.now j.cells.now called.same.cells) u (inl apart) (held_in (sym before) h) in
+    record { host = keeps _ m.host; cleaner = keeps _ m.cleaner; apart = m.apart; level = level ∙ m.level }

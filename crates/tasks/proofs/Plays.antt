@@ -18,7 +18,7 @@ use Rattle.tasks.specs.declared.turn.Task.{Task}
 use Rattle.tasks.specs.declared.turn.Task.TheVariants.{Host, Cleaner}
 use Rattle.tasks.specs.declared.turn.Turn.{Turn}
 use Rattle.tasks.specs.Turns.{asked, Called}
-use Rattle.tasks.specs.Stations.{state, seat, call, Manned, Same, Watched, Watches, ask_in, answer_in, Plays}
+use Rattle.tasks.specs.Stations.{state, seat, call, Same, Watched, Watches, ask_in, answer_in, Plays}
 
 module _ {S : Type 0} (table : S → Table) (strict : Bool) (acts : Order → S → S → Type 0) (d : Station S) where
   pub plays_none : Plays table strict acts d [] d
@@ -32,15 +32,15 @@ module _ {S : Type 0} (table : S → Table) (strict : Bool) (acts : Order → S 
   seat_same d' same Host = ap (λ (s : Slip). s.seat) same.host
   seat_same d' same Cleaner = ap (λ (s : Slip). s.seat) same.cleaner
 
-  pub plays_more : (ls : List Line) (d' d'' : Station S) (t : Turn) (s : Seen) → Manned d' → Same d d' → Plays table strict acts d ls d' → Called table strict acts (state d') (call d' t) s.answer (state d'') → Plays table strict acts d (ls ++ line t s ∷ []) d''
-  plays_more ls d' d'' t s manned same plays made n w start asks answers long run =
+  pub plays_more : (ls : List Line) (d' d'' : Station S) (t : Turn) (s : Seen) → Same d d' → Plays table strict acts d ls d' → Called table strict acts (state d') (call d' t) s.answer (state d'') → Plays table strict acts d (ls ++ line t s ∷ []) d''
+  plays_more ls d' d'' t s same plays made n w start asks answers long run =
       let before = plays n w start asks answers long run in
       let new : List Answer = before.0 in
-      let sixteen = sym (length-map d'.rows row_of) ∙ manned.host.rows in
+      let sixteen = sym (length-map d'.rows row_of) ∙ d'.manned.host.rows in
       let is : call d' t ≡ driven.asked n (ask_in d (line t s)) =
-      λ i. record { what = asked t.ask; seat = seat_same d' same t.task i; level = manned.level i; cells = (same.cells ∙ long) i; rows = sixteen i } in
+      λ i. record { what = asked t.ask; seat = seat_same d' same t.task i; level = d'.manned.level i; cells = (same.cells ∙ long) i; rows = sixteen i } in
       let own : call d' t ≡ called (state d') (ask_in d (line t s)) =
-      λ i. record { what = asked t.ask; seat = seat_same d' same t.task i; level = manned.level i; cells = sym (length-map d'.cells cell_of) i; rows = sym (length-map d'.rows row_of) i } in
+      λ i. record { what = asked t.ask; seat = seat_same d' same t.task i; level = d'.manned.level i; cells = sym (length-map d'.cells cell_of) i; rows = sym (length-map d'.rows row_of) i } in
       let more = driven_more wear_below table strict acts n w start _ _ (state d') (ask_in d (line t s)) (call d' t) s.answer (state d'') is own before.2 made.did made.runs in (
         new ++ s.answer ∷ [],
         map_push answer_in ls (line t s) ∙ ap (λ l. l ++ Some s.answer ∷ []) before.1 ∙ sym (map_push Some new s.answer),

@@ -1,2 +1,3 @@
+pub mod Manned
 pub mod Turns
 pub mod Stations

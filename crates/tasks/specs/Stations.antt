@@ -1,5 +1,5 @@
 -- An index with two tasks at it. Assumes nothing.
-use Rattle.std.specs.Prelude.{◌≡◌, ℕ, Bool, not, ◌≢◌, List, [], ◌∷◌, ◌++◌, map, length, Some, Option, ◌==◌, nat_lt}
+use Rattle.std.specs.Prelude.{◌≡◌, ℕ, Bool, not, List, [], ◌∷◌, ◌++◌, map, length, Some, Option, ◌==◌, nat_lt}
 use Rattle.std.specs.Option.{option_map}
 use Rattle.basis.specs.declared.refusal.Refusal.{Refusal}
 use Rattle.basis.specs.declared.refusal.Refusal.TheVariants.{OutOfRange, WrongSizes, NotAway}
@@ -17,7 +17,6 @@ use Rattle.list_law.specs.Call.{State}
 use Rattle.list_law.specs.Making.{makes, Makes}
 use Rattle.list_window.specs.Applied.{state_of}
 use Rattle.list.specs.Calls.{call_of}
-use Rattle.list.specs.Slips.{Held}
 use Rattle.tasks.specs.declared.station.Station.{Station}
 use Rattle.marks.specs.Meaning.{Table, Order}
 use Rattle.marks.specs.Marks.{numbered}
@@ -45,13 +44,6 @@ seat d t = seat_by d.host.seat d.cleaner.seat t
 -- the call of a turn, at the mask level of the station
 abbrev pub call : {S : Type 0} → Station S → Turn → Call Wear
 call d t = call_of (asked t.ask) (seat d t.task) d.mask.level d.cells d.rows
-
--- both tasks hold their seats, which are two, and no interrupt is masked
-pub record Manned {S : Type 0} (d : Station S) : Type 0 where
-  pub host : Held (state d) d.host.seat
-  pub cleaner : Held (state d) d.cleaner.seat
-  pub apart : d.host.seat ≢ d.cleaner.seat
-  pub level : d.mask.level ≡ 0
 
 -- the marks of both tasks, as the scheme has them
 pub record Marked {S : Type 0} (table : S → Table) (d : Station S) (m : Marks) : Type 0 where

@@ -1,6 +1,9 @@
 // Two firmware tasks on one index of wear keys: a host that looks up and inserts, and a cleaner that removes. Each takes its seat as a slip.
 #![tactic(auto)]
 
+ghost use Rattle.std.specs.Prelude.{◌≡◌, map, length, Some, MatchResult};
+ghost use Rattle.tasks.specs.Stations.{not_opened, Ran};
+
 mod account;
 mod plan;
 mod station;
@@ -8,7 +11,7 @@ mod turn;
 
 use crate::account::print_account;
 use crate::plan::schedule;
-use crate::station::run_tasks;
+use crate::station::Station;
 use crate::turn::Line;
 use basis::bounded::BankBit;
 use basis::refusal::Refusal;
@@ -16,7 +19,26 @@ use keys::wear::Wear;
 use list_cells::cell::Cell;
 use marks::full::Full;
 use marks::pair::Pair;
+use marks::scheme::Scheme;
 use std::io;
+
+// Host and cleaner join an index that is made over the cells, take the turns of the lines, and leave. Refused, no turn is taken.
+fn run_tasks<S: Scheme + Drop>(
+    cells: [Cell<Wear>; 8],
+    scheme: S,
+    window: u8,
+    host: u8,
+    cleaner: u8,
+    lines: &mut [Line],
+) -> Result<(), Refusal>
+    ensures turns { map (λ (l : Line). l.turn) lines.new ≡ map (λ (l : Line). l.turn) lines.old }
+    ensures ran { MatchResult result (λ _. Ran S.Scheme.table S.Scheme.strict S.Scheme.acts cells scheme window host cleaner lines.new) (λ e. (lines.new ≡ lines.old) × (not_opened (length cells) window host cleaner ≡ Some e)) }
+{
+    let mut station = Station::open(cells, scheme, window, host, cleaner)?;
+    station.play(lines);
+    station.close();
+    Ok(())
+}
 
 // Eight cells, a window of 2, and two banks of marks: seat 4, the host's, is in the first and seat 5, the cleaner's, in the second.
 // Whatever happens, every slip is given back before this returns.

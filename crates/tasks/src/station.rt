@@ -1,10 +1,11 @@
 // An index with two tasks at it, each with a slip in hand.
-ghost use Rattle.std.specs.Prelude.{◌≡◌, ◌<◌, map, length, Some, IfOk, IfErr, MatchResult};
+ghost use Rattle.std.specs.Prelude.{◌≡◌, ◌<◌};
 ghost use Rattle.keys.specs.Wear.{wear_below};
+ghost use Rattle.list_window.specs.Applied.{state_of};
 ghost use Rattle.list.specs.Calls.{CalledOn};
-ghost use Rattle.tasks.specs.Turns.{asked, Called};
+ghost use Rattle.tasks.specs.Turns.{asked};
+ghost use Rattle.tasks.specs.Manned.{Manned};
 ghost use Rattle.marks.specs.Marks.{numbered};
-ghost use Rattle.tasks.specs.Stations.{state, call, Manned, Marked, Same, Watches, Plays, not_opened, Begun, Ran};
 
 use crate::turn::{Ask, Line, Marks, Seen, Task, Turn};
 use basis::answer::Answer;
@@ -19,7 +20,7 @@ use list_window::index::Index;
 use list_window::row::{Doing, Row};
 use marks::scheme::Scheme;
 
-// What an index keeps, the mask, and the slips of the two tasks. It cannot be let go, since the slips cannot.
+// What an index keeps, the mask, and the slips of the two tasks, whose seats are held. It cannot be let go, since the slips cannot.
 pub struct Station<S> {
     cells: [Cell<Wear>; 8],
     rows: [Row<Wear>; 16],
@@ -28,6 +29,7 @@ pub struct Station<S> {
     mask: Mask,
     host: Slip,
     cleaner: Slip,
+    ghost manned: { Manned (state_of cells rows anchor scheme) host.seat cleaner.seat mask.level },
 }
 
 // The call that is asked, made by showing a slip.
@@ -52,6 +54,10 @@ fn mark_of<S: Scheme>(slip: &Slip, scheme: &S) -> Option<Place>
 }
 
 impl<S: Scheme + Drop> Station<S> {
+    ghost use Rattle.std.specs.Prelude.{map, length, Some, IfOk, IfErr};
+    ghost use Rattle.tasks.specs.Turns.{Called};
+    ghost use Rattle.tasks.specs.Stations.{state, call, Marked, Same, Watches, Plays, not_opened, Begun};
+
     // Makes an index over the cells, and the two tasks join. If the second is refused, the first leaves.
     pub(crate) fn open(
         mut cells: [Cell<Wear>; 8],
@@ -60,7 +66,6 @@ impl<S: Scheme + Drop> Station<S> {
         host: u8,
         cleaner: u8,
     ) -> Result<Station<S>, Refusal>
-        ensures manned { IfOk result (λ d. Manned d) }
         ensures begun { IfOk result (λ d. Begun S.Scheme.table S.Scheme.strict S.Scheme.acts cells scheme window host cleaner d) }
         ensures seats { IfOk result (λ d. (d.host.seat ≡ host) × (d.cleaner.seat ≡ cleaner)) }
         ensures refused { IfErr result (λ e. not_opened (length cells) window host cleaner ≡ Some e) }
@@ -95,9 +100,7 @@ impl<S: Scheme + Drop> Station<S> {
 
     // A task makes a call, showing its slip.
     pub(crate) fn take(&mut self, turn: Turn) -> Answer
-        requires { Manned self.old }
         ensures called { Called S.Scheme.table S.Scheme.strict S.Scheme.acts (state self.old) (call self.old turn) result (state self.new) }
-        ensures manned { Manned self.new }
         ensures same { Same self.old self.new }
     {
         let ask = turn.ask;
@@ -115,7 +118,6 @@ impl<S: Scheme + Drop> Station<S> {
 
     // What the two tasks have marked.
     fn marks(&self) -> Marks
-        requires { Manned self.now }
         ensures { Marked S.Scheme.table self.now result }
     {
         Marks {
@@ -126,13 +128,11 @@ impl<S: Scheme + Drop> Station<S> {
 
     // A task takes its turn, and what is seen of it.
     pub(crate) fn watch(&mut self, turn: Turn) -> Seen
-        requires { Manned self.old }
         ensures called { Called S.Scheme.table S.Scheme.strict S.Scheme.acts (state self.old) (call self.old turn) result.answer (state self.new) }
         ensures before { Marked S.Scheme.table self.old result.before }
         ensures after { Marked S.Scheme.table self.new result.after }
         ensures cells { result.cells ≡ self.new.cells }
         ensures head { result.head ≡ self.new.anchor.head }
-        ensures manned { Manned self.new }
         ensures same { Same self.old self.new }
     {
         let before = self.marks();
@@ -151,11 +151,9 @@ impl<S: Scheme + Drop> Station<S> {
 
     // The tasks take their turns, one after another, and each line gets what is seen of its turn.
     pub(crate) fn play(&mut self, lines: &mut [Line])
-        requires { Manned self.old }
         ensures turns { map (λ (l : Line). l.turn) lines.new ≡ map (λ (l : Line). l.turn) lines.old }
         ensures watched { Watches S.Scheme.table S.Scheme.strict S.Scheme.acts self.old lines.new self.new }
         ensures plays { Plays S.Scheme.table S.Scheme.strict S.Scheme.acts self.old lines.new self.new }
-        ensures manned { Manned self.new }
         ensures same { Same self.old self.new }
     {
         for line in lines.iter_mut() {
@@ -164,9 +162,7 @@ impl<S: Scheme + Drop> Station<S> {
     }
 
     // Both tasks leave, and give their slips back.
-    pub(crate) fn close(self)
-        requires { Manned self }
-    {
+    pub(crate) fn close(self) {
         let Station {
             mut cells,
             mut rows,
@@ -180,22 +176,4 @@ impl<S: Scheme + Drop> Station<S> {
         cleaner.leave(&mut index, &mut mask).unwrap();
         host.leave(&mut index, &mut mask).unwrap();
     }
-}
-
-// Host and cleaner join an index that is made over the cells, take the turns of the lines, and leave. Refused, no turn is taken.
-pub(crate) fn run_tasks<S: Scheme + Drop>(
-    cells: [Cell<Wear>; 8],
-    scheme: S,
-    window: u8,
-    host: u8,
-    cleaner: u8,
-    lines: &mut [Line],
-) -> Result<(), Refusal>
-    ensures turns { map (λ (l : Line). l.turn) lines.new ≡ map (λ (l : Line). l.turn) lines.old }
-    ensures ran { MatchResult result (λ _. Ran S.Scheme.table S.Scheme.strict S.Scheme.acts cells scheme window host cleaner lines.new) (λ e. (lines.new ≡ lines.old) × (not_opened (length cells) window host cleaner ≡ Some e)) }
-{
-    let mut station = Station::open(cells, scheme, window, host, cleaner)?;
-    station.play(lines);
-    station.close();
-    Ok(())
 }

@@ -7,10 +7,10 @@ use Rattle.tasks.proofs.station.Station.close.Goals as goal
 
 pub unwrap-requires : goal.unwrap-requires
 unwrap-requires g c =
-    let held = held_in (sym (over_state c.over-index.ensures)) c.requires.cleaner in
-    ok_left _ (leave_accepted _ _ _ _ _ _ _ _ c.leave.ensures.called.did (as_long _ _ c.leave.ensures.called.same.cells) refl (ap (λ l. ltb l 7) c.requires.level) held)
+    let held = held_in (sym (over_state c.over-index.ensures)) c.args.self.manned.cleaner in
+    ok_left _ (leave_accepted _ _ _ _ _ _ _ _ c.leave.ensures.called.did (as_long _ _ c.leave.ensures.called.same.cells) refl (ap (λ l. ltb l 7) c.args.self.manned.level) held)
 
 pub unwrap-requires-2 : goal.unwrap-requires-2
 unwrap-requires-2 g c =
-    let held = stays_held _ _ _ _ _ _ _ _ c.leave.ensures.called.did (as_long _ _ c.leave.ensures.called.same.cells) _ (inr c.requires.apart) (held_in (sym (over_state c.over-index.ensures)) c.requires.host) in
-    ok_left _ (leave_accepted _ _ _ _ _ _ _ _ c.leave-2.ensures.called.did (as_long _ _ c.leave-2.ensures.called.same.cells) refl (ap (λ l. ltb l 7) (c.leave.ensures.level ∙ c.requires.level)) held)
+    let held = stays_held _ _ _ _ _ _ _ _ c.leave.ensures.called.did (as_long _ _ c.leave.ensures.called.same.cells) _ (inr c.args.self.manned.apart) (held_in (sym (over_state c.over-index.ensures)) c.args.self.manned.host) in
+    ok_left _ (leave_accepted _ _ _ _ _ _ _ _ c.leave-2.ensures.called.did (as_long _ _ c.leave-2.ensures.called.same.cells) refl (ap (λ l. ltb l 7) (c.leave.ensures.level ∙ c.args.self.manned.level)) held)

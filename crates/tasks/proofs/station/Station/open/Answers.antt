@@ -23,12 +23,12 @@ unwrap-requires g c =
     let level = c.in-Err.ensures.level ∙ c.in_ok-host.ensures.level in
     ok_left _ (leave_accepted _ _ _ _ _ _ _ _ c.leave.ensures.called.did (as_long _ _ c.leave.ensures.called.same.cells) refl (ap (λ l. ltb l 7) level) (held_at c.in_ok-host.ensures.seat held))
 
-pub returns-in-Ok-clause-manned : goal.returns-in-Ok-clause-manned
-returns-in-Ok-clause-manned g c =
+pub invariant_of-result : goal.invariant_of-result
+invariant_of-result g c =
     let first = joined_held _ _ _ _ _ _ _ _ c.in_ok-host.ensures.called.did (as_long _ _ c.join.ensures.called.same.cells) refl refl in
     let second = joined_held _ _ _ _ _ _ _ _ c.in-Ok.ensures.called.did (as_long _ _ c.join-2.ensures.called.same.cells) refl refl in
     let held = stays_held _ _ _ _ _ _ _ _ c.in-Ok.ensures.called.did (as_long _ _ c.join-2.ensures.called.same.cells) _ (inl join_apart) first.held in
-    manned_by _ _ _ c.in_ok-host.ensures.seat c.in-Ok.ensures.seat (held_in (search rules) held) (held_in (search rules) second.held) (λ e. first.held.row (ap (row_at _) e ∙ second.was)) (c.in-Ok.ensures.level ∙ c.in_ok-host.ensures.level)
+    record { manned = manned_by _ c.in_ok-host.ensures.seat c.in-Ok.ensures.seat (held_in (search rules) held) (held_in (search rules) second.held) (λ e. first.held.row (ap (row_at _) e ∙ second.was)) (c.in-Ok.ensures.level ∙ c.in_ok-host.ensures.level) }
 
 pub returns-in-Ok-clause-begun : goal.returns-in-Ok-clause-begun
 returns-in-Ok-clause-begun g c =

@@ -8,7 +8,6 @@ use Rattle.tasks.proofs.station.Station.play.Goals as goal
 
 pub loop-line-init : goal.loop-line-init
 loop-line-init g c = record {
-  manned = c.requires;
   same = record { host = refl; cleaner = refl; cells = refl };
   plays = plays_none g.S.Scheme.table g.S.Scheme.strict g.S.Scheme.acts c.args.self.now;
   watched = refl;
@@ -25,10 +24,9 @@ loop-line-preserved g c =
     let lines = c.loop-line.lines in
     let more = sym (take_more_set lines at _ (omega arith)) in
     record {
-      manned = seen.manned;
       same = record { host = seen.same.host ∙ so_far.same.host; cleaner = seen.same.cleaner ∙ so_far.same.cleaner; cells = seen.same.cells ∙ so_far.same.cells };
       plays = subst (λ ls. Plays scheme.table scheme.strict scheme.acts d ls c.watch.new.self) more
-          (plays_more scheme.table scheme.strict scheme.acts d (take at lines) c.loop-line.self c.watch.new.self _ c.watch.result so_far.manned so_far.same so_far.plays seen.called);
+          (plays_more scheme.table scheme.strict scheme.acts d (take at lines) c.loop-line.self c.watch.new.self _ c.watch.result so_far.same so_far.plays seen.called);
       watched = subst (λ ls. Watches scheme.table scheme.strict scheme.acts d ls c.watch.new.self) more
           (watches_more scheme.table scheme.strict scheme.acts d (take at lines) c.loop-line.self _ c.watch.new.self so_far.watched (record { seen = c.watch.result; shown = refl; called = seen.called; before = seen.before; after = seen.after; cells = seen.cells; head = seen.head; same = seen.same }));
       turns = turns_stay lines at c.line-item.result _ (omega arith) c.line-item.is (ap (λ (l : Line). l.turn) (sym c.line-item.is)) ∙ so_far.turns;

@@ -4,20 +4,14 @@ use Rattle.list_window.proofs.Lent.{over_state}
 use Rattle.tasks.proofs.Manned.{called_over, asked_apart, stays_manned}
 use Rattle.tasks.proofs.station.Station.take.Goals as goal
 
-pub returns-in-Host : goal.returns-in-Host
-returns-in-Host g c =
-    let called = called_over (over_state c.over-index.ensures) (search rules) (search rules) c.show.ensures.called in
-    record {
-      called = called;
-      manned = stays_manned c.args.self.now _ _ _ called.did (asked_apart c.args.turn.ask) (search rules) refl refl c.show.ensures.level c.requires;
-      same = search rules;
-    }
+pub invariant_of-self : goal.invariant_of-self
+invariant_of-self g c = record { manned = stays_manned (over_state c.over-index.ensures) c.show.ensures.called (asked_apart c.args.turn.ask) c.show.ensures.level c.args.self.now.manned }
 
-pub returns-in-Cleaner : goal.returns-in-Cleaner
-returns-in-Cleaner g c =
-    let called = called_over (over_state c.over-index.ensures) (search rules) (search rules) c.show-in-Cleaner.ensures.called in
-    record {
-      called = called;
-      manned = stays_manned c.args.self.now _ _ _ called.did (asked_apart c.args.turn.ask) (search rules) refl refl c.show-in-Cleaner.ensures.level c.requires;
-      same = search rules;
-    }
+pub invariant_of-self-in-Cleaner : goal.invariant_of-self-in-Cleaner
+invariant_of-self-in-Cleaner g c = record { manned = stays_manned (over_state c.over-index.ensures) c.show-in-Cleaner.ensures.called (asked_apart c.args.turn.ask) c.show-in-Cleaner.ensures.level c.args.self.now.manned }
+
+pub returns-in-Host-clause-called : goal.returns-in-Host-clause-called
+returns-in-Host-clause-called g c = called_over (over_state c.over-index.ensures) refl (search rules) c.show.ensures.called
+
+pub returns-in-Cleaner-clause-called : goal.returns-in-Cleaner-clause-called
+returns-in-Cleaner-clause-called g c = called_over (over_state c.over-index.ensures) refl (search rules) c.show-in-Cleaner.ensures.called

@@ -3,7 +3,7 @@ use Rattle.std.proofs.Common.{◌∷◌, map, length, refl}
 use Rattle.keys.specs.Wear.{wear_below}
 use Rattle.list_law.proofs.Driven.{driven_as}
 use Rattle.tasks.specs.Stations.{asking, joining}
-use Rattle.tasks.proofs.station.run_tasks.Goals as goal
+use Rattle.tasks.proofs.run_tasks.Goals as goal
 
 pub returns : goal.returns
 returns g c =
