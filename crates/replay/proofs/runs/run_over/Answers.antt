@@ -34,6 +34,6 @@ returns-in_err-run_calls g c =
     let cells = length-map index.cells.now cell_of in
     let as_many = length-map c.args.asks.now ask_of ∙ c.requires in
     let why =
-        subst (λ (x : List _). (makes (length x) 16 c.args.window ≡ false) × (c.in_err-run_calls.field-0.0 ≡ WrongSizes)) there.cells_now
-        (refused scheme.table scheme.strict scheme.acts _ _ _ _ _ _ _ _ _ c.in_err-run_calls.ensures.ran sixteen rows cells as_many c.in_err-run_calls.field-0.0 refl) in
+    subst (λ (x : List _). (makes (length x) 16 c.args.window ≡ false) × (c.in_err-run_calls.field-0.0 ≡ WrongSizes)) there.cells_now
+    (refused scheme.table scheme.strict scheme.acts _ _ _ _ _ _ _ _ _ c.in_err-run_calls.ensures.ran sixteen rows cells as_many c.in_err-run_calls.field-0.0 refl) in
     search rules
