@@ -1,6 +1,6 @@
 // What a call answers.
 ghost use Rattle.std.specs.Prelude.{◌≡◌, Some};
-ghost use Rattle.basis.specs.Answers.{settled, spoken};
+ghost use Rattle.basis.specs.Answers.{answer, settled, spoken};
 
 use crate::refusal::Refusal;
 use std::fmt;
@@ -29,21 +29,34 @@ impl From<Result<(), Refusal>> for Answer {
     }
 }
 
+impl Answer {
+    // The word that a line prints for this answer.
+    pub fn word(self) -> &'static str
+        ensures { result.now ≡ (answer self).word }
+    {
+        match self {
+            Answer::No => "no",
+            Answer::Yes => "yes",
+            Answer::Ok => "ok",
+            Answer::Wait => "wait",
+            Answer::Full => "full",
+            Answer::Refused(_) => "refused",
+        }
+    }
+}
+
 // The word of an answer, and behind a refusal its number.
 impl fmt::Display for Answer {
     ghost output = { λ a. Some (spoken a) };
 
     fn fmt<W: fmt::Write>(&self, f: &mut fmt::Formatter<W>) -> fmt::Result {
+        let word = self.word();
         match *self {
-            Answer::No => f.write_str("no"),
-            Answer::Yes => f.write_str("yes"),
-            Answer::Ok => f.write_str("ok"),
-            Answer::Wait => f.write_str("wait"),
-            Answer::Full => f.write_str("full"),
             Answer::Refused(refusal) => {
                 let number = u8::from(refusal);
-                write!(f, "refused {number}")
+                write!(f, "{word} {number}")
             }
+            _ => f.write_str(word),
         }
     }
 }

@@ -30,12 +30,12 @@ impl From<Refusal> for u8 {
     }
 }
 
-// A refusal in a few words, for a person.
-impl fmt::Display for Refusal {
-    ghost output = { λ r. Some (refusal r).word };
-
-    fn fmt<W: fmt::Write>(&self, f: &mut fmt::Formatter<W>) -> fmt::Result {
-        f.write_str(match *self {
+impl Refusal {
+    // The refusal in a few words, for a person.
+    pub fn word(self) -> &'static str
+        ensures { result.now ≡ (refusal self).word }
+    {
+        match self {
             Refusal::OutOfRange => "number out of range",
             Refusal::WrongSizes => "wrong sizes",
             Refusal::MaskRaised => "mask already raised",
@@ -47,7 +47,15 @@ impl fmt::Display for Refusal {
             Refusal::ScheduleTooLong => "schedule too long",
             Refusal::NoVersionByte => "no first byte 1",
             Refusal::BadRecord => "bad record",
-        })
+        }
+    }
+}
+
+impl fmt::Display for Refusal {
+    ghost output = { λ r. Some (refusal r).word };
+
+    fn fmt<W: fmt::Write>(&self, f: &mut fmt::Formatter<W>) -> fmt::Result {
+        f.write_str(self.word())
     }
 }
 

@@ -3,6 +3,8 @@
 ghost use Rattle.std.specs.Prelude.{◌≡◌, true, false, map};
 ghost use Rattle.marks.specs.Marks.{numbered};
 ghost use Rattle.list_law.specs.Call.{rewritten, linked, flagged, leading_set, freed, removed, inserted};
+ghost use Rattle.list_law.specs.Call as call;
+ghost use Rattle.list_cells.specs.declared.cell.Cell.{Cell};
 ghost use Rattle.list_cells.specs.Views.{cell_of, lent_memory, SameSizes};
 
 use crate::cell::{Anchor, Cell};
@@ -15,32 +17,21 @@ use keys::key::Key;
 fn store<K: Key>(cells: &mut [Cell<K>], place: Place, cell: Cell<K>)
     ensures { map cell_of cells.new ≡ rewritten (map cell_of cells.old) place.number (λ _. cell_of cell) }
 {
+    // by index: `get_mut` of a slice promises how long it is afterwards, and no element
     let at = place.index();
     if at < cells.len() {
         cells[at] = cell;
     }
 }
 
-// The cell at a place gets another link.
-fn put_link<K: Key>(cells: &mut [Cell<K>], place: Place, link: Option<Place>)
-    ensures { map cell_of cells.new ≡ rewritten (map cell_of cells.old) place.number (linked (numbered link)) }
+// The cell at a place becomes what `change` makes of it. The promise is for every function that `change` computes.
+fn rewrite<K: Key, F: FnOnce(Cell<K>) -> Cell<K>>(cells: &mut [Cell<K>], place: Place, change: F)
+    requires { F.IsAlwaysCallable change }
+    ensures { (f : call.Cell K → call.Cell K) → ((before after : Cell K) → F.post change before after → cell_of after ≡ f (cell_of before)) → map cell_of cells.new ≡ rewritten (map cell_of cells.old) place.number f }
 {
     if let Some(cell) = cell_at(cells, place) {
-        let linked = Cell {
-            link: Link::from(link),
-            ..*cell
-        };
-        store(cells, place, linked);
-    }
-}
-
-// The cell at a place is flagged listed or free.
-fn put_flag<K: Key>(cells: &mut [Cell<K>], place: Place, listed: bool)
-    ensures { map cell_of cells.new ≡ rewritten (map cell_of cells.old) place.number (flagged listed) }
-{
-    if let Some(cell) = cell_at(cells, place) {
-        let flagged = Cell { listed, ..*cell };
-        store(cells, place, flagged);
+        let changed = change(*cell);
+        store(cells, place, changed);
     }
 }
 
@@ -56,7 +47,14 @@ pub fn set_lead<K: Key>(
 {
     match lead {
         None => anchor.head = link,
-        Some(place) => put_link(cells, place, link),
+        Some(place) => rewrite(
+            cells,
+            place,
+            |cell| Cell {
+                link: Link::from(link),
+                ..cell
+            },
+        ),
     }
 }
 
@@ -65,8 +63,16 @@ pub fn free_cell<K: Key>(cells: &mut [Cell<K>], anchor: &mut Anchor, place: Plac
     ensures memory { lent_memory cells.new anchor.new ≡ freed place.number (lent_memory cells.old anchor.old) }
     ensures sizes { SameSizes anchor.old anchor.new }
 {
-    put_flag(cells, place, false);
-    put_link(cells, place, anchor.free);
+    rewrite(
+        cells,
+        place,
+        |cell| Cell {
+            listed: false,
+            ..cell
+        },
+    );
+    let link = Link::from(anchor.free);
+    rewrite(cells, place, |cell| Cell { link, ..cell });
     anchor.free = Some(place);
 }
 

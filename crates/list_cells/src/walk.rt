@@ -92,6 +92,7 @@ fn walk_links<K: Key>(
 {
     let mut lead = lead;
     let mut link = link;
+    // the room of a window is a number, and no slice
     for _passed in 0..room {
         let Some(place) = link.place() else {
             return Some(Met::Absent { lead, link: None });

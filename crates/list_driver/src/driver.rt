@@ -18,7 +18,7 @@ use list_window::turn::Request;
 use marks::scheme::Scheme;
 
 // What a seat asks, by plain number, at which mask level.
-#[derive(Clone, Copy)]
+#[derive(Clone, Copy, PartialEq, Eq, Debug)]
 pub struct Ask<K> {
     pub seat: u8,
     pub level: u8,
@@ -44,6 +44,7 @@ fn drive<K: Key, S: Scheme>(
     ensures driven { Driven K.Key.below S.Scheme.table S.Scheme.strict S.Scheme.acts (length index.old.cells.now) index.old.anchor.now.window (lent_state index.old) (map ask_of asks.now) answers.new (lent_state index.new) }
     ensures same { SameLent index.old index.new }
 {
+    // the answers by index: in a loop over `asks.iter().zip(answers.iter_mut())` no fact says which answers are written so far
     for (at, ask) in asks.iter().enumerate() {
         answers[at] = run_ask(index, mask, *ask);
     }

@@ -71,6 +71,7 @@ fn known_seat(number: u16) -> Seat
 fn release_all<S: Scheme>(scheme: &mut S)
     ensures { Along (Obeys S.Scheme.table S.Scheme.strict S.Scheme.acts) releases scheme.old scheme.new }
 {
+    // the sixteen seats are numbers, and no slice
     for number in 0..16u16 {
         scheme.release(known_seat(number));
     }

@@ -15,6 +15,7 @@ use marks::full::Full;
 use marks::scheme::Scheme;
 use std::array;
 use std::process::Abort;
+use std::test::Fail;
 
 // Three cells, sixteen rows, an anchor, the full scheme and a mask.
 #[derive(Drop)]
@@ -152,4 +153,25 @@ impl Lent {
         assert_eq!(rt; self.call(seat, request), Answer::Refused(refusal));
         assert_eq!(rt; self.picture(), before);
     }
+}
+
+// What the tests expect is made by `link_to` and `cell`: both give the numbers that they are asked for.
+#[test]
+fn expected_links_have_their_numbers(rt: HostRuntime) -> Result<(), Fail> {
+    for number in [0, 1, 2, 3, 900, 901, 1007] {
+        let place = link_to(number);
+        assert_eq!(rt; place.map(|place| place.number()), Some(number));
+        let made = cell(7, Some(number), true);
+        assert_eq!(rt; made.key.number, 7);
+        assert_eq!(rt; made.link.place().map(|place| place.number()), Some(number));
+        assert!(rt; made.listed);
+    }
+    assert_eq!(rt;
+        cell(7, None, false)
+            .link
+            .place()
+            .map(|place| place.number()),
+        None
+    );
+    Ok(())
 }

@@ -20,6 +20,7 @@ fn used(rt: &impl Abort) -> Result<Lent, Fail> {
     lent.cells[1] = cell(20, Some(900), true);
     lent.anchor.free = link_to(900);
     assert_eq!(rt; lent.call(0, begin_of(Kind::Insert, 15)), Answer::Ok);
+    // the sixteen seats are numbers, and no slice
     for seat in 0..16u16 {
         lent.scheme
             .reserve(Seat::try_from(seat)?, Place::try_from(2)?);

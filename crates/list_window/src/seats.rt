@@ -21,6 +21,7 @@ pub fn row_at<K: Key>(rows: &[Row<K>], seat: Seat) -> Doing<K>
 pub fn put_row<K: Key>(rows: &mut [Row<K>], seat: Seat, doing: Doing<K>)
     ensures { map row_of rows.new ≡ slice_set (map row_of rows.old) seat.number (doing_of doing) }
 {
+    // by index: `get_mut` of a slice promises how long it is afterwards, and no element
     let at = seat.index();
     if at < rows.len() {
         rows[at] = Row { doing };

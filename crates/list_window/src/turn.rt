@@ -11,7 +11,7 @@ use basis::refusal::Refusal;
 use keys::key::Key;
 
 // What a seat may ask of the index.
-#[derive(Clone, Copy)]
+#[derive(Clone, Copy, PartialEq, Eq, Debug)]
 pub enum Request<K> {
     Join,
     Leave,
@@ -21,7 +21,7 @@ pub enum Request<K> {
 }
 
 // What a call that is not refused makes of a row: another row, with or without a release of the seat's mark, or a window.
-#[derive(Clone, Copy)]
+#[derive(Clone, Copy, PartialEq, Eq, Debug)]
 pub enum Turn<K> {
     Becomes { doing: Doing<K>, releases: bool },
     Runs { kind: Kind, target: K },

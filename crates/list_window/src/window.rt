@@ -74,9 +74,7 @@ impl<K: Key, S: Scheme> Index<'_, K, S> {
     {
         unlink(self.cells, self.anchor, lead, place, link);
         self.scheme.revoke(place);
-        self.scheme.release(seat);
-        put_row(self.rows, seat, Doing::Idle);
-        Answer::Yes
+        self.end_operation(seat, Answer::Yes)
     }
 
     // The cell at a place, if there is one.

@@ -12,7 +12,7 @@ use crate::spread::slot_of;
 use basis::bounded::{Place, Seat};
 
 // A mark, and the counter of its place's slot when it was made.
-#[derive(Clone, Copy)]
+#[derive(Clone, Copy, PartialEq, Eq, Debug)]
 pub struct Stamped {
     place: Place,
     counter: u32,

@@ -43,16 +43,24 @@ pub enum Record {
     },
 }
 
-// The scheme's name, for a person.
+impl SchemeName {
+    // The scheme's name, for a person.
+    pub fn word(self) -> &'static str
+        ensures { result.now ≡ (scheme self).word }
+    {
+        match self {
+            SchemeName::Full => "full",
+            SchemeName::Owner => "owner",
+            SchemeName::Version => "version",
+        }
+    }
+}
+
 impl fmt::Display for SchemeName {
     ghost output = { λ s. Some (scheme s).word };
 
     fn fmt<W: fmt::Write>(&self, f: &mut fmt::Formatter<W>) -> fmt::Result {
-        f.write_str(match self {
-            SchemeName::Full => "full",
-            SchemeName::Owner => "owner",
-            SchemeName::Version => "version",
-        })
+        f.write_str(self.word())
     }
 }
 

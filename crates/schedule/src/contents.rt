@@ -29,6 +29,8 @@ pub fn read_whole(heap: Global, bytes: &[u8]) -> Result<Contents<'_>, AllocError
             });
         }
     };
+    // No `for`: a reader has no end of its own, since it gives its refusal again at each further asking. `while let` left open what an `Ok`
+    // holds after the loop. The replay has a loop of its own like this one, which says why.
     let refusal = loop {
         match reader.next() {
             Ok(Some(part)) => parts.push(part)?,

@@ -4,24 +4,17 @@ use std::alloc::{AllocError, Global};
 use std::process::Abort;
 use std::test::Fail;
 
-// The call bytes stand here as numbers, so that no schedule is made with the code that reads it.
-const JOIN: u8 = 1;
-
-const LEAVE: u8 = 2;
-
-const LOOKUP: u8 = 3;
-
-const INSERT: u8 = 4;
-
-const REMOVE: u8 = 5;
-
-const STEP: u8 = 6;
-
-const ABANDON: u8 = 7;
-
-// One call: its call byte, its seat, and the sector of a begin (0 where it has none).
-#[derive(Clone, Copy)]
-struct Call(u8, u8, u32);
+// One call: its seat, and the sector of a begin. The tests write it as bytes themselves, so that no schedule is made with the code that reads it.
+#[derive(Clone, Copy, PartialEq, Eq, Debug)]
+enum Call {
+    Join(u8),
+    Leave(u8),
+    Lookup(u8, u32),
+    Insert(u8, u32),
+    Remove(u8, u32),
+    Step(u8),
+    Abandon(u8),
+}
 
 // The first byte and a setup: scheme (1 full, 2 owner, 3 version), cells and window.
 fn schedule(heap: Global, scheme: u8, cells: u16, window: u8) -> Result<Vec<u8>, AllocError> {
@@ -31,13 +24,20 @@ fn schedule(heap: Global, scheme: u8, cells: u16, window: u8) -> Result<Vec<u8>,
     Ok(bytes)
 }
 
+fn push_begin(bytes: &mut Vec<u8>, byte: u8, seat: u8, sector: u32) -> Result<(), AllocError> {
+    let [a, b, c, d] = sector.to_be_bytes();
+    bytes.extend_from_slice(&[0, 6, byte, seat, a, b, c, d])
+}
+
 fn push_call(bytes: &mut Vec<u8>, call: Call) -> Result<(), AllocError> {
-    let Call(byte, seat, sector) = call;
-    if byte >= LOOKUP && byte <= REMOVE {
-        let [a, b, c, d] = sector.to_be_bytes();
-        bytes.extend_from_slice(&[0, 6, byte, seat, a, b, c, d])
-    } else {
-        bytes.extend_from_slice(&[0, 2, byte, seat])
+    match call {
+        Call::Join(seat) => bytes.extend_from_slice(&[0, 2, 1, seat]),
+        Call::Leave(seat) => bytes.extend_from_slice(&[0, 2, 2, seat]),
+        Call::Lookup(seat, sector) => push_begin(bytes, 3, seat, sector),
+        Call::Insert(seat, sector) => push_begin(bytes, 4, seat, sector),
+        Call::Remove(seat, sector) => push_begin(bytes, 5, seat, sector),
+        Call::Step(seat) => bytes.extend_from_slice(&[0, 2, 6, seat]),
+        Call::Abandon(seat) => bytes.extend_from_slice(&[0, 2, 7, seat]),
     }
 }
 
@@ -79,35 +79,35 @@ fn check_calls(
 // waits at 20; seat 0 removes 20, and the very next step, of seat 2, takes the freed cell. Seat 1, whose mark is struck, begins again
 // at the head, waits and finds 30. Then 20 is missing, and so is 99.
 const STORY: [Call; 29] = [
-    Call(JOIN, 0, 0),
-    Call(INSERT, 0, 10),
-    Call(STEP, 0, 0),
-    Call(INSERT, 0, 20),
-    Call(STEP, 0, 0),
-    Call(INSERT, 0, 30),
-    Call(STEP, 0, 0),
-    Call(STEP, 0, 0),
-    Call(INSERT, 0, 40),
-    Call(STEP, 0, 0),
-    Call(STEP, 0, 0),
-    Call(INSERT, 0, 20),
-    Call(STEP, 0, 0),
-    Call(JOIN, 1, 0),
-    Call(LOOKUP, 1, 30),
-    Call(STEP, 1, 0),
-    Call(JOIN, 2, 0),
-    Call(INSERT, 2, 25),
-    Call(REMOVE, 0, 20),
-    Call(STEP, 0, 0),
-    Call(STEP, 2, 0),
-    Call(STEP, 1, 0),
-    Call(STEP, 1, 0),
-    Call(LOOKUP, 1, 20),
-    Call(STEP, 1, 0),
-    Call(STEP, 1, 0),
-    Call(REMOVE, 1, 99),
-    Call(STEP, 1, 0),
-    Call(STEP, 1, 0),
+    Call::Join(0),
+    Call::Insert(0, 10),
+    Call::Step(0),
+    Call::Insert(0, 20),
+    Call::Step(0),
+    Call::Insert(0, 30),
+    Call::Step(0),
+    Call::Step(0),
+    Call::Insert(0, 40),
+    Call::Step(0),
+    Call::Step(0),
+    Call::Insert(0, 20),
+    Call::Step(0),
+    Call::Join(1),
+    Call::Lookup(1, 30),
+    Call::Step(1),
+    Call::Join(2),
+    Call::Insert(2, 25),
+    Call::Remove(0, 20),
+    Call::Step(0),
+    Call::Step(2),
+    Call::Step(1),
+    Call::Step(1),
+    Call::Lookup(1, 20),
+    Call::Step(1),
+    Call::Step(1),
+    Call::Remove(1, 99),
+    Call::Step(1),
+    Call::Step(1),
 ];
 
 #[test]
@@ -123,24 +123,24 @@ fn a_cell_is_freed_and_taken_under_a_walker(rt: HostRuntime) -> Result<(), Fail>
 
 // Every refusal of a call that a schedule can get: 1, 4, 5, 6 and 7, and that each leaves the row as it was.
 const REFUSED: [Call; 18] = [
-    Call(JOIN, 16, 0),
-    Call(JOIN, 0, 0),
-    Call(JOIN, 0, 0),
-    Call(LEAVE, 1, 0),
-    Call(LOOKUP, 1, 5),
-    Call(STEP, 1, 0),
-    Call(ABANDON, 1, 0),
-    Call(STEP, 0, 0),
-    Call(ABANDON, 0, 0),
-    Call(INSERT, 0, 7),
-    Call(REMOVE, 0, 7),
-    Call(STEP, 255, 0),
-    Call(ABANDON, 0, 0),
-    Call(ABANDON, 0, 0),
-    Call(INSERT, 0, 7),
-    Call(LEAVE, 0, 0),
-    Call(STEP, 0, 0),
-    Call(LEAVE, 0, 0),
+    Call::Join(16),
+    Call::Join(0),
+    Call::Join(0),
+    Call::Leave(1),
+    Call::Lookup(1, 5),
+    Call::Step(1),
+    Call::Abandon(1),
+    Call::Step(0),
+    Call::Abandon(0),
+    Call::Insert(0, 7),
+    Call::Remove(0, 7),
+    Call::Step(255),
+    Call::Abandon(0),
+    Call::Abandon(0),
+    Call::Insert(0, 7),
+    Call::Leave(0),
+    Call::Step(0),
+    Call::Leave(0),
 ];
 
 #[test]
@@ -156,22 +156,22 @@ fn calls_are_refused_by_seat_and_row(rt: HostRuntime) -> Result<(), Fail> {
 
 // Two walkers that wait at the same cell by turns.
 const BESIDE: [Call; 16] = [
-    Call(JOIN, 0, 0),
-    Call(INSERT, 0, 30),
-    Call(STEP, 0, 0),
-    Call(INSERT, 0, 20),
-    Call(STEP, 0, 0),
-    Call(INSERT, 0, 10),
-    Call(STEP, 0, 0),
-    Call(JOIN, 1, 0),
-    Call(LOOKUP, 0, 40),
-    Call(LOOKUP, 1, 40),
-    Call(STEP, 0, 0),
-    Call(STEP, 1, 0),
-    Call(STEP, 0, 0),
-    Call(STEP, 1, 0),
-    Call(STEP, 0, 0),
-    Call(STEP, 1, 0),
+    Call::Join(0),
+    Call::Insert(0, 30),
+    Call::Step(0),
+    Call::Insert(0, 20),
+    Call::Step(0),
+    Call::Insert(0, 10),
+    Call::Step(0),
+    Call::Join(1),
+    Call::Lookup(0, 40),
+    Call::Lookup(1, 40),
+    Call::Step(0),
+    Call::Step(1),
+    Call::Step(0),
+    Call::Step(1),
+    Call::Step(0),
+    Call::Step(1),
 ];
 
 // Under owner each reserve takes the slot from the other seat, so both begin again for ever; under full and version both arrive.
@@ -187,10 +187,10 @@ fn owners_of_one_slot_restart_each_other(rt: HostRuntime) -> Result<(), Fail> {
 
 // Inserts keys 10 to 10 × count, the largest first, so that each insert takes one step; key 10 × (count - p) is at place p.
 fn push_fill(bytes: &mut Vec<u8>, count: u32) -> Result<(), AllocError> {
-    push_call(bytes, Call(JOIN, 0, 0))?;
+    push_call(bytes, Call::Join(0))?;
     for left in (1..count.saturating_add(1)).rev() {
-        push_call(bytes, Call(INSERT, 0, left.saturating_mul(10)))?;
-        push_call(bytes, Call(STEP, 0, 0))?;
+        push_call(bytes, Call::Insert(0, left.saturating_mul(10)))?;
+        push_call(bytes, Call::Step(0))?;
     }
     Ok(())
 }
@@ -223,9 +223,9 @@ fn check_full_size(
     push_fill(&mut bytes, 1008)?;
     push_call(&mut bytes, begin)?;
     for _ in 0..waits {
-        push_call(&mut bytes, Call(STEP, 0, 0))?;
+        push_call(&mut bytes, Call::Step(0))?;
     }
-    push_call(&mut bytes, Call(STEP, 0, 0))?;
+    push_call(&mut bytes, Call::Step(0))?;
     let answers = fill_answers(heap, 1008, waits, last)?;
     assert_eq!(rt;
         replay(heap, bytes.as_slice())?.as_str(),
@@ -238,13 +238,13 @@ fn check_full_size(
 #[test]
 fn a_list_of_all_cells_is_walked(rt: HostRuntime) -> Result<(), Fail> {
     let heap = rt.alloc();
-    let beyond = Call(LOOKUP, 0, 20000);
+    let beyond = Call::Lookup(0, 20000);
     check_full_size(&rt, heap, 1, 64, beyond, 15, ",no")?;
-    check_full_size(&rt, heap, 2, 64, Call(INSERT, 0, 20000), 15, ",full")?;
-    check_full_size(&rt, heap, 3, 64, Call(REMOVE, 0, 10080), 15, ",yes")?;
+    check_full_size(&rt, heap, 2, 64, Call::Insert(0, 20000), 15, ",full")?;
+    check_full_size(&rt, heap, 3, 64, Call::Remove(0, 10080), 15, ",yes")?;
     check_full_size(&rt, heap, 1, 1, beyond, 1008, ",no")?;
-    check_full_size(&rt, heap, 2, 1, Call(LOOKUP, 0, 10080), 1007, ",yes")?;
-    check_full_size(&rt, heap, 3, 1, Call(INSERT, 0, 10080), 1007, ",no")
+    check_full_size(&rt, heap, 2, 1, Call::Lookup(0, 10080), 1007, ",yes")?;
+    check_full_size(&rt, heap, 3, 1, Call::Insert(0, 10080), 1007, ",no")
 }
 
 // Seat 1 marks place 1; seat 0 removes the key at place 17, which is in the same slot. The full scheme keeps the mark; owner and
@@ -255,13 +255,13 @@ fn check_same_slot(rt: &impl Abort, heap: Global, scheme: u8, more: &str) -> Res
     push_calls(
         &mut bytes,
         &[
-            Call(JOIN, 1, 0),
-            Call(LOOKUP, 1, 1000),
-            Call(STEP, 1, 0),
-            Call(REMOVE, 0, 10),
-            Call(STEP, 0, 0),
-            Call(STEP, 1, 0),
-            Call(STEP, 1, 0),
+            Call::Join(1),
+            Call::Lookup(1, 1000),
+            Call::Step(1),
+            Call::Remove(0, 10),
+            Call::Step(0),
+            Call::Step(1),
+            Call::Step(1),
         ],
     )?;
     let mut answers = fill_answers(heap, 18, 0, ",ok,wait,ok,yes,")?;
@@ -286,7 +286,7 @@ fn a_removal_in_the_same_slot_restarts_a_walker(rt: HostRuntime) -> Result<(), F
 fn damaged_records_end_the_answers(rt: HostRuntime) -> Result<(), Fail> {
     let heap = rt.alloc();
     let mut bytes = schedule(heap, 1, 3, 2)?;
-    push_calls(&mut bytes, &[Call(JOIN, 0, 0), Call(INSERT, 0, 5)])?;
+    push_calls(&mut bytes, &[Call::Join(0), Call::Insert(0, 5)])?;
     let good = bytes.len();
     // an unknown call, a join of length 3, a second setup, a record that is cut short
     let damages: [&[u8]; 4] = [
@@ -305,7 +305,7 @@ fn damaged_records_end_the_answers(rt: HostRuntime) -> Result<(), Fail> {
     }
     // a refused setup is the last that is answered
     let mut refused = schedule(heap, 2, 3, 65)?;
-    push_calls(&mut refused, &[Call(JOIN, 0, 0)])?;
+    push_calls(&mut refused, &[Call::Join(0)])?;
     assert_eq!(rt; replay(heap, refused.as_slice())?.as_str(), "1 refused 2\n");
     Ok(())
 }

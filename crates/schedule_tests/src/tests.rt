@@ -69,6 +69,7 @@ fn a_record_is_cut_short_at_each_byte(rt: HostRuntime) -> Result<(), Fail> {
     let heap = rt.alloc();
     let ends = [1, 8, 12, 20, 24, 28, 32];
     let mut whole = 0usize;
+    // a front has a length, and no element that a `for` over bytes would give
     for n in 1..=32usize {
         let contents = read_whole(heap, &WORKED[..n])?;
         whole = ends

@@ -46,8 +46,8 @@ pub fn revoked_at_each(
     ]
 }
 
-// A function for each scheme, though each only calls the generic one: what it promises is said in that scheme's own state and orders, which no
-// clause over a type parameter can name.
+// A function for each scheme, though each only calls the generic one: its clause says what the generic promise comes to at that scheme, in the
+// words of that scheme.
 pub fn move_in_full(full: &mut Full, t: Seat, p: Place)
     ensures { full_state full.new ≡ full_act (reserve t.number p.number) (full_act (release t.number) (full_state full.old)) }
 {
