@@ -1,5 +1,6 @@
 -- A seat is held from the join that gave its slip until its leave, which is accepted. Assumes nothing.
 use Rattle.std.proofs.Common.{◌≡◌, ℕ, pred, ◌<◌, Bool, true, false, cond, not, ◌&&◌, eqb, ltb, leb, ◌≢◌, ◌⊎◌, List, [], ◌∷◌, length, set, Some, None, Option, sym, refl, ap, ◌∙◌, inl, inr, arith, length-set}
+use Rattle.std.proofs.lemmas.List.{length-map}
 use Rattle.std.proofs.lemmas.Bool.{lt-ltb, eq-eqb, ltb-true, eqb-true, both_ways}
 use Rattle.std.specs.List.{slice_get}
 use Rattle.basis.specs.declared.kind.Kind.{Kind}
@@ -14,6 +15,10 @@ use Rattle.ledger.specs.Ledger.{What, join, leave, begin, step, abandon, Call}
 use Rattle.list_law.specs.Call.{Link, Cell, Row, away, idle, running, State, Memory, Anchor, memory_of, sizes_fit, refusals, row_at, row_or, Effect, Met, bad, passed, present, absent, taken, taken_from, refused, ended, inserted, decided, walked, reach, window, turn, turn_effect, call_effect, effect, rows_after, Did}
 use Rattle.list_law.proofs.Lists.{clash, none_some, nth_set_same, nth_set_other, nth_there}
 use Rattle.list_law.proofs.Refusals.{tests_pass}
+use Rattle.list_cells.specs.Views.{cell_of}
+use Rattle.list_window.specs.declared.index.Index.{Index}
+use Rattle.list_window.specs.Lent.{lent_state}
+use Rattle.list.specs.Calls.{call_on, CalledOn}
 use Rattle.list.specs.Slips.{Held}
 
 -- a row that is left, if it changes, is not away
@@ -183,3 +188,20 @@ module _ {K M : Type 0} (below : K → K → Bool) (table : M → Table) (strict
       by away d = absurd (d refl)
       by idle d = λ i. (turn_effect below (memory_of s) t s.anchor.window (table s.marks t) (turn t idle (what i))).answer
       by (running k x) d = λ i. (turn_effect below (memory_of s) t s.anchor.window (table s.marks t) (turn t (running k x) (what i))).answer
+
+-- the same of a call on an index
+module _ {K M : Type 0} {below : K → K → Bool} {table : M → Table} {strict : Bool} {acts : Order → M → M → Type 0} {i j : Index K M} {what : What K} {t level : ℕ} {a : Answer}
+    (called : CalledOn below table strict acts i what t level a j) where
+  long : length (lent_state j).cells ≡ length (lent_state i).cells
+  long = length-map j.cells.now cell_of ∙ called.same.cells ∙ sym (length-map i.cells.now cell_of)
+
+  pub held_on : (u : ℕ) → (what ≢ leave) ⊎ (u ≢ t) → Held (lent_state i) u → Held (lent_state j) u
+  held_on u d h = stays_held below table strict acts (lent_state i) (call_on i what t level) a (lent_state j) called.did long u d h
+
+  pub joined_on : what ≡ join → a ≡ Ok → Held (lent_state j) t × (row_at (lent_state i).rows t ≡ away)
+  joined_on is ok =
+      let taken = joined_held below table strict acts (lent_state i) (call_on i what t level) a (lent_state j) called.did long is ok in
+      (taken.held, taken.was)
+
+  pub leave_on : what ≡ leave → ltb level 7 ≡ true → Held (lent_state i) t → a ≡ Ok
+  leave_on is low h = leave_accepted below table strict acts (lent_state i) (call_on i what t level) a (lent_state j) called.did long is low h

@@ -171,7 +171,7 @@ impl<K: Key, S: Scheme> Index<'_, K, S> {
 
     // One window of a running seat.
     #[inline(always)]
-    pub fn run_window(&mut self, seat: Seat, kind: Kind, target: K) -> Answer
+    pub(crate) fn run_window(&mut self, seat: Seat, kind: Kind, target: K) -> Answer
         ensures { AppliedTo S.Scheme.table S.Scheme.strict S.Scheme.acts seat.number (window K.Key.below (window_memory self.old) seat.number self.old.anchor.now.window (S.Scheme.table self.old.scheme.now seat.number) kind target) self.old result self.new }
     {
         let met = self.walk(seat, target);

@@ -1,8 +1,7 @@
 -- The seats of both tasks stay held, from call to call. Assumes nothing.
 use Rattle.std.specs.Prelude.{Result, IsOk}
 use Rattle.std.specs.declared.result.Result.TheVariants as result
-use Rattle.std.proofs.Common.{◌≡◌, ℕ, Bool, ◌≢◌, List, map, length, sym, refl, ◌∙◌, subst, inl}
-use Rattle.std.proofs.lemmas.List.{length-map}
+use Rattle.std.proofs.Common.{◌≡◌, ℕ, Bool, ◌≢◌, sym, refl, ◌∙◌, subst, inl}
 use Rattle.basis.specs.declared.refusal.Refusal.{Refusal}
 use Rattle.basis.specs.declared.answer.Answer.TheVariants.{Ok, Refused}
 use Rattle.basis.specs.declared.answer.Answer.{Answer}
@@ -12,22 +11,16 @@ use Rattle.marks.specs.Meaning.{Table, Order}
 use Rattle.ledger.specs.Ledger.{What, Call, join, leave}
 use Rattle.list_law.specs.Call.{State}
 use Rattle.list_law.proofs.Lists.{clash}
-use Rattle.list_cells.specs.declared.cell.Cell as declared
-use Rattle.list_cells.specs.Views.{cell_of}
 use Rattle.list_window.specs.declared.index.Index.{Index}
 use Rattle.list_window.specs.Lent.{lent_state}
 use Rattle.list.specs.declared.slip.Kept.{Kept}
 use Rattle.list.specs.Calls.{call_on, CalledOn}
 use Rattle.list.specs.Slips.{left, Held}
-use Rattle.list.proofs.Held.{stays_held}
+use Rattle.list.proofs.Held.{held_on}
 use Rattle.tasks.specs.declared.turn.Ask.{Ask}
 use Rattle.tasks.specs.declared.turn.Ask.TheVariants.{Begin, Step, Abandon}
 use Rattle.tasks.specs.Turns.{asked, Called}
 use Rattle.tasks.specs.Manned.{Manned}
-
--- as many cells, as the definitions see them
-pub as_long : {K : Type 0} (cells cells' : List (declared.Cell K)) → length cells' ≡ length cells → length (map cell_of cells') ≡ length (map cell_of cells)
-as_long cells cells' e = length-map cells' cell_of ∙ e ∙ sym (length-map cells cell_of)
 
 -- a refusal is not an ok
 pub refused_apart : {q : Refusal} → Refused q ≡ Ok → ⊥
@@ -74,5 +67,5 @@ manned_by s host cleaner held held' apart level = record {
 pub stays_manned : {M : Type 0} {table : M → Table} {strict : Bool} {acts : Order → M → M → Type 0} {i j : Index Wear M} {what : What Wear} {t masked : ℕ} {a : Answer} {s : State Wear M} {h k level level' : ℕ}
     → lent_state i ≡ s → CalledOn wear_below table strict acts i what t masked a j → what ≢ leave → level' ≡ level → Manned s h k level → Manned (lent_state j) h k level'
 stays_manned {i = i} {j = j} before called apart level m =
-    let keeps : (u : ℕ) → Held _ u → Held (lent_state j) u = λ u h. stays_held _ _ _ _ _ _ _ _ called.did (as_long i.cells.now j.cells.now called.same.cells) u (inl apart) (held_in (sym before) h) in
+    let keeps : (u : ℕ) → Held _ u → Held (lent_state j) u = λ u h. held_on called u (inl apart) (held_in (sym before) h) in
     record { host = keeps _ m.host; cleaner = keeps _ m.cleaner; apart = m.apart; level = level ∙ m.level }

@@ -24,20 +24,14 @@ use Rattle.tasks.specs.declared.turn.Line.{Line}
 use Rattle.tasks.specs.declared.turn.Marks.{Marks}
 use Rattle.tasks.specs.declared.turn.Seen.{Seen}
 use Rattle.tasks.specs.declared.turn.Task.{Task}
-use Rattle.tasks.specs.declared.turn.Task.TheVariants.{Host, Cleaner}
 use Rattle.tasks.specs.declared.turn.Turn.{Turn}
-use Rattle.tasks.specs.Turns.{asked, Called}
+use Rattle.tasks.specs.Turns.{asked, seat_by, Called}
 
 -- what the index keeps
 abbrev pub state : {S : Type 0} → Station S → State Wear S
 state d = state_of d.cells d.rows d.anchor d.scheme
 
--- the seat of a task, by the seats of host and cleaner
-abbrev pub seat_by : ℕ → ℕ → Task → ℕ
-seat_by h k Host = h
-seat_by h k Cleaner = k
-
--- the same, by their slips
+-- the seat of a task, by its slip
 abbrev pub seat : {S : Type 0} → Station S → Task → ℕ
 seat d t = seat_by d.host.seat d.cleaner.seat t
 

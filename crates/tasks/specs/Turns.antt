@@ -30,6 +30,11 @@ pub record Called {M : Type 0} (table : M → Table) (strict : Bool) (acts : Ord
 abbrev pub untaken : Task → Ask → Line
 untaken t a = record { turn = record { task = t; ask = a }; seen = None }
 
+-- the seat of a task, by the seats of host and cleaner
+abbrev pub seat_by : ℕ → ℕ → Task → ℕ
+seat_by h k Host = h
+seat_by h k Cleaner = k
+
 -- the mark of a task
 abbrev pub mark_by : Marks → Task → Option (Bounded 1008)
 mark_by m Host = m.host

@@ -3,7 +3,7 @@ ghost use Rattle.std.specs.Prelude.{◌≡◌, ◌<◌};
 ghost use Rattle.keys.specs.Wear.{wear_below};
 ghost use Rattle.list_window.specs.Applied.{state_of};
 ghost use Rattle.list.specs.Calls.{CalledOn};
-ghost use Rattle.tasks.specs.Turns.{asked};
+ghost use Rattle.tasks.specs.Turns.{asked, seat_by};
 ghost use Rattle.tasks.specs.Manned.{Manned};
 ghost use Rattle.marks.specs.Marks.{numbered};
 
@@ -41,6 +41,16 @@ fn show<S: Scheme>(slip: &Slip, index: &mut Index<'_, Wear, S>, mask: &mut Mask,
         Ask::Begin { kind, target } => Answer::from(slip.begin(index, mask, kind, target)),
         Ask::Step => slip.step(index, mask),
         Ask::Abandon => Answer::from(slip.abandon(index, mask)),
+    }
+}
+
+// The slip of a task, of the host's and the cleaner's.
+fn slip_of<'a>(task: Task, host: &'a Slip, cleaner: &'a Slip) -> &'a Slip
+    ensures { result.now.seat ≡ seat_by host.now.seat cleaner.now.seat task }
+{
+    match task {
+        Task::Host => host,
+        Task::Cleaner => cleaner,
     }
 }
 
@@ -103,17 +113,14 @@ impl<S: Scheme + Drop> Station<S> {
         ensures called { Called S.Scheme.table S.Scheme.strict S.Scheme.acts (state self.old) (call self.old turn) result (state self.new) }
         ensures same { Same self.old self.new }
     {
-        let ask = turn.ask;
+        let slip = slip_of(turn.task, &self.host, &self.cleaner);
         let mut index = Index::over(
             &mut self.cells,
             &mut self.rows,
             &mut self.anchor,
             &mut self.scheme,
         );
-        match turn.task {
-            Task::Host => show(&self.host, &mut index, &mut self.mask, ask),
-            Task::Cleaner => show(&self.cleaner, &mut index, &mut self.mask, ask),
-        }
+        show(slip, &mut index, &mut self.mask, turn.ask)
     }
 
     // What the two tasks have marked.

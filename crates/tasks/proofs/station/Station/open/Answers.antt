@@ -9,26 +9,26 @@ use Rattle.list_law.proofs.Driven.{driven_none, driven_at}
 use Rattle.list_cells.specs.Views.{cell_of, anchor_of}
 use Rattle.list_window.specs.Rows.{row_of}
 use Rattle.list_window.specs.Lent.{lent_state}
-use Rattle.list.proofs.Held.{stays_held, joined_held, leave_accepted}
+use Rattle.list.proofs.Held.{held_on, joined_on, leave_on}
 use Rattle.tasks.specs.Stations.{not_opened}
 use Rattle.tasks.proofs.Begun.{accepted, joins, driven_to}
 use Rattle.tasks.proofs.Refused.{sizes_right, all_away, other_row, refused_away, refused_second, host_refused}
-use Rattle.tasks.proofs.Manned.{as_long, ok_left, join_apart, manned_by, held_at, held_in}
+use Rattle.tasks.proofs.Manned.{ok_left, join_apart, manned_by, held_at, held_in}
 use Rattle.tasks.proofs.station.Station.open.Goals as goal
 
 pub unwrap-requires : goal.unwrap-requires
 unwrap-requires g c =
-    let first = joined_held _ _ _ _ _ _ _ _ c.in_ok-host.ensures.called.did (as_long _ _ c.join.ensures.called.same.cells) refl refl in
-    let held = stays_held _ _ _ _ _ _ _ _ c.in-Err.ensures.called.did (as_long _ _ c.join-2.ensures.called.same.cells) _ (inl join_apart) first.held in
+    let first = joined_on c.in_ok-host.ensures.called refl refl in
+    let held = held_on c.in-Err.ensures.called _ (inl join_apart) first.0 in
     let level = c.in-Err.ensures.level ∙ c.in_ok-host.ensures.level in
-    ok_left _ (leave_accepted _ _ _ _ _ _ _ _ c.leave.ensures.called.did (as_long _ _ c.leave.ensures.called.same.cells) refl (ap (λ l. ltb l 7) level) (held_at c.in_ok-host.ensures.seat held))
+    ok_left _ (leave_on c.leave.ensures.called refl (ap (λ l. ltb l 7) level) (held_at c.in_ok-host.ensures.seat held))
 
 pub invariant_of-result : goal.invariant_of-result
 invariant_of-result g c =
-    let first = joined_held _ _ _ _ _ _ _ _ c.in_ok-host.ensures.called.did (as_long _ _ c.join.ensures.called.same.cells) refl refl in
-    let second = joined_held _ _ _ _ _ _ _ _ c.in-Ok.ensures.called.did (as_long _ _ c.join-2.ensures.called.same.cells) refl refl in
-    let held = stays_held _ _ _ _ _ _ _ _ c.in-Ok.ensures.called.did (as_long _ _ c.join-2.ensures.called.same.cells) _ (inl join_apart) first.held in
-    record { manned = manned_by _ c.in_ok-host.ensures.seat c.in-Ok.ensures.seat (held_in (search rules) held) (held_in (search rules) second.held) (λ e. first.held.row (ap (row_at _) e ∙ second.was)) (c.in-Ok.ensures.level ∙ c.in_ok-host.ensures.level) }
+    let first = joined_on c.in_ok-host.ensures.called refl refl in
+    let second = joined_on c.in-Ok.ensures.called refl refl in
+    let held = held_on c.in-Ok.ensures.called _ (inl join_apart) first.0 in
+    record { manned = manned_by _ c.in_ok-host.ensures.seat c.in-Ok.ensures.seat (held_in (search rules) held) (held_in (search rules) second.0) (λ e. first.0.row (ap (row_at _) e ∙ second.1)) (c.in-Ok.ensures.level ∙ c.in_ok-host.ensures.level) }
 
 pub returns-in-Ok-clause-begun : goal.returns-in-Ok-clause-begun
 returns-in-Ok-clause-begun g c =
@@ -70,7 +70,7 @@ returns-in-Err-clause-refused g c =
     let rows = length-map index.rows.now row_of ∙ ap length there.rows_now in
     let right : makes (length c.args.cells) 16 c.args.window ≡ true = (λ i. makes (sym cells i) (sym rows i) c.args.window) ∙ fits in
     let is = made.made fits in
-    let first = joined_held _ _ _ _ _ _ _ _ c.in_ok-host.ensures.called.did (as_long _ _ c.join.ensures.called.same.cells) refl refl in
+    let first = joined_on c.in_ok-host.ensures.called refl refl in
     let others : (c.args.cleaner ≢ c.args.host → row_at (map row_of c.join.new.index.rows.now) c.args.cleaner ≡ away) =
     λ d. ap (λ rs. row_at rs c.args.cleaner) c.in_ok-host.ensures.called.did.rows ∙ other_row _ c.args.host c.args.cleaner _ d ∙ ap (λ s. row_at s.rows c.args.cleaner) is ∙ all_away 16 c.args.cleaner in
-    refused_second _ _ _ _ c.in-Err.ensures.called.did refl (ap (λ l. ltb l 7) c.in_ok-host.ensures.level) first.held.cells first.held.rows (length c.args.cells) c.args.window c.args.host right (lt-ltb c.args.host 16 first.held.seat) others
+    refused_second _ _ _ _ c.in-Err.ensures.called.did refl (ap (λ l. ltb l 7) c.in_ok-host.ensures.level) first.0.cells first.0.rows (length c.args.cells) c.args.window c.args.host right (lt-ltb c.args.host 16 first.0.seat) others
