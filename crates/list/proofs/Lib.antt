@@ -1,3 +1,4 @@
 pub mod Effects
 pub mod Slips
 pub mod Held
+pub mod Driven

@@ -7,17 +7,14 @@ use Rattle.keys.specs.declared.wear.Wear.{Wear}
 use Rattle.keys.specs.Wear.{wear_below}
 use Rattle.marks.specs.Meaning.{Table, Order}
 use Rattle.ledger.specs.Ledger.{join}
-use Rattle.std.proofs.lemmas.List.{length-map}
-use Rattle.list_law.specs.Call.{State, Did}
-use Rattle.list_law.specs.Continued.{Continues}
+use Rattle.list_law.specs.Call.{State}
 use Rattle.list_law.specs.Driven.{Driven}
 use Rattle.list_law.specs.Performed.{Ask}
-use Rattle.list_law.proofs.Driven.{driven_more}
-use Rattle.list_cells.specs.Views.{cell_of}
+use Rattle.list_law.proofs.Driven.{driven_as}
 use Rattle.list_window.specs.declared.index.Index.{Index}
-use Rattle.list_window.specs.Rows.{row_of}
 use Rattle.list_window.specs.Lent.{lent_state}
-use Rattle.list.specs.Calls.{call_on}
+use Rattle.list.specs.Calls.{CalledOn}
+use Rattle.list.proofs.Driven.{driven_on}
 use Rattle.tasks.proofs.Manned.{refused_apart}
 use Rattle.tasks.specs.Stations.{joining}
 
@@ -27,14 +24,11 @@ accepted true is = refl
 accepted false is = absurd (refused_apart (sym is))
 
 -- an accepted join more, at level 0
-pub joins : {S : Type 0} {table : S → Table} {strict : Bool} {acts : Order → S → S → Type 0} {n w : ℕ} {start : State Wear S} {asks : List (Ask Wear)} {answers : List Answer} {s' : State Wear S} (t level : ℕ) (i : Index Wear S) → length i.cells.now ≡ n → length i.rows.now ≡ 16 → level ≡ 0
-    → Driven wear_below table strict acts n w start asks answers (lent_state i) → Did wear_below table strict acts (lent_state i) (call_on i join t level) Ok s' → Continues wear_below table strict acts (lent_state i) (call_on i join t level) Ok s'
-    → Driven wear_below table strict acts n w start (asks ++ joining t ∷ []) (answers ++ Ok ∷ []) s'
-joins {table = table} {strict = strict} {acts = acts} {n = n} {w = w} {start = start} {asks = asks} {answers = answers} {s' = s'} t level index long sixteen low run did goes =
-    driven_more wear_below table strict acts n w start asks answers (lent_state index) (joining t) (call_on index join t level) Ok s'
-    (λ i. record { what = join; seat = t; level = low i; cells = long i; rows = sixteen i })
-    (λ i. record { what = join; seat = t; level = low i; cells = sym (length-map index.cells.now cell_of) i; rows = sym (length-map index.rows.now row_of) i })
-    run did goes
+pub joins : {S : Type 0} {table : S → Table} {strict : Bool} {acts : Order → S → S → Type 0} {n w : ℕ} {start : State Wear S} {asks : List (Ask Wear)} {answers : List Answer} {i j : Index Wear S} {t level : ℕ} → length i.cells.now ≡ n → length i.rows.now ≡ 16 → level ≡ 0
+    → Driven wear_below table strict acts n w start asks answers (lent_state i) → CalledOn wear_below table strict acts i join t level Ok j
+    → Driven wear_below table strict acts n w start (asks ++ joining t ∷ []) (answers ++ Ok ∷ []) (lent_state j)
+joins {table = table} {strict = strict} {acts = acts} {n = n} {w = w} {asks = asks} {t = t} long sixteen low run called =
+    driven_as wear_below table strict acts n w (λ i. asks ++ record { seat = t; level = low i; what = join } ∷ []) refl (driven_on long sixteen run called)
 
 -- the same state at the end
 pub driven_to : {S : Type 0} {table : S → Table} {strict : Bool} {acts : Order → S → S → Type 0} {n w : ℕ} {start : State Wear S} {asks : List (Ask Wear)} {answers : List Answer} {s s' : State Wear S} → s ≡ s' → Driven wear_below table strict acts n w start asks answers s → Driven wear_below table strict acts n w start asks answers s'

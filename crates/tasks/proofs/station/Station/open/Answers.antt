@@ -40,8 +40,8 @@ returns-in-Ok-clause-begun g c =
     let long = c.make.ensures.same.cells ∙ cells in
     let rows = c.make.ensures.same.rows ∙ ap length there.rows_now in
     let start = driven_at (length-map index.cells.now cell_of ∙ cells) refl (driven_none wear_below g.S.Scheme.table g.S.Scheme.strict g.S.Scheme.acts _ _ _ (made.runs fits)) in
-    let one = joins c.args.host _ c.make.new.index long rows refl start c.in_ok-host.ensures.called.did c.in_ok-host.ensures.called.runs in
-    let two = joins c.args.cleaner _ c.join.new.index (c.join.ensures.called.same.cells ∙ long) (c.join.ensures.called.same.rows ∙ rows) c.in_ok-host.ensures.level one c.in-Ok.ensures.called.did c.in-Ok.ensures.called.runs in
+    let one = joins long rows refl start c.in_ok-host.ensures.called in
+    let two = joins (c.join.ensures.called.same.cells ∙ long) (c.join.ensures.called.same.rows ∙ rows) c.in_ok-host.ensures.level one c.in-Ok.ensures.called in
     record { cells = search rules; lent = lent_state index; of_cells = ap (map cell_of) there.cells_now; of_scheme = there.scheme_now; start = _; made = made; run = driven_to (search rules) two }
 
 pub returns-in_err-host-clause-refused : goal.returns-in_err-host-clause-refused
