@@ -94,12 +94,9 @@ impl Slip {
         ensures slip { IfErr result (λ kept. kept.slip ≡ self) }
     {
         let Slip { seat } = self;
-        match calls::leave(index, mask, seat) {
-            Ok(()) => Ok(()),
-            Err(refusal) => Err(Kept {
-                refusal,
-                slip: Slip { seat },
-            }),
-        }
+        calls::leave(index, mask, seat).map_err(|refusal| Kept {
+            refusal,
+            slip: Slip { seat },
+        })
     }
 }

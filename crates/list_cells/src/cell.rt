@@ -8,7 +8,8 @@ use crate::link::Link;
 use basis::bounded::Place;
 use keys::key::Key;
 
-// A cell: a key, the link to the next cell or the end of its chain, and whether it is listed; else it is free.
+// A cell: a key, the link to the next cell or the end of its chain, and whether it is listed; else it is free. Links are places in the lent cells
+// and no boxes: the firmware has no heap.
 #[derive(Clone, Copy, PartialEq, Eq, Debug)]
 pub struct Cell<K> {
     pub key: K,

@@ -11,7 +11,8 @@ use crate::link::Link;
 use basis::bounded::Place;
 use keys::key::Key;
 
-// What a link leads to, for a window on its way to a target. Where it leads to no cell, or to a free one, a walk gives none of these.
+// What a link leads to, for a window on its way to a target. `lead` and `link` often go together and are no struct: in each case the link is
+// another one. Where it leads to no cell, or to a free one, a walk gives none of these.
 #[derive(Clone, Copy, PartialEq, Eq, Debug)]
 pub enum Met {
     // A cell whose key is below the target.

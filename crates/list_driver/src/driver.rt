@@ -33,7 +33,7 @@ fn run_ask<K: Key, S: Scheme>(index: &mut Index<'_, K, S>, mask: &mut Mask, ask:
     make_call(index, mask, ask.seat, ask.request)
 }
 
-// Runs the calls one after another, and writes the answer of each.
+// Runs the calls one after another, and writes the answer of each. Calls and answers are two slices: the caller lends room for the answers.
 fn drive<K: Key, S: Scheme>(
     index: &mut Index<'_, K, S>,
     mask: &mut Mask,

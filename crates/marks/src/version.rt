@@ -47,6 +47,8 @@ impl Version {
     }
 }
 
+// Each of these says that both arrays have sixteen entries, and no invariant does: an array's length is no fact to a caller before an element of it
+// is read.
 impl Stamps {
     // The counter of that slot goes one up.
     fn raise(&mut self, slot: usize)

@@ -54,7 +54,8 @@ fn run_over<S: Scheme>(
     Ok(())
 }
 
-// The answers of the calls on an index of so many cells with that window, over the scheme; refused where making refuses these sizes.
+// The answers of the calls on an index of so many cells with that window, over the scheme; refused where making refuses these sizes. Two Results,
+// one in the other: `?` passes on that memory ran out, and a refusal is answered.
 fn answers_over<S: Scheme>(
     heap: Global,
     scheme: &mut S,

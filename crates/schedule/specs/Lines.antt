@@ -1,5 +1,5 @@
 -- The line that answers a record. Assumes nothing.
-use Rattle.std.specs.Prelude.{◌≡◌, ℕ, suc, List, [], ◌∷◌, ◌++◌, codes, decimal}
+use Rattle.std.specs.Prelude.{◌≡◌, ℕ, suc, List, [], ◌∷◌, ◌++◌, Result, OnOk, OnErr, codes, decimal}
 use Rattle.basis.specs.declared.answer.Answer.{Answer}
 use Rattle.basis.specs.Answers.{spaced, spoken}
 
@@ -19,3 +19,8 @@ refused_line n refusal = decimal n ++ 32 ∷ (codes "refused" ++ (spaced (refusa
 -- a text that begins with another
 abbrev pub BeginsWith : List ℕ → List ℕ → Type 0
 BeginsWith text front = (rest : List ℕ) × (text ≡ front ++ rest)
+
+-- more was added to a text; where memory ran out, what stood before stays at its front
+pub record Adds {X E : Type 0} (before after : List ℕ) (r : Result X E) (more : List ℕ) : Type 0 where
+  pub ok : OnOk r (after ≡ before ++ more)
+  pub err : OnErr r (BeginsWith after before)

@@ -1,7 +1,7 @@
 // The lines that answer a schedule.
-ghost use Rattle.std.specs.Prelude.{◌≡◌, ◌+◌, ◌<◌, ◌≤◌, [], ◌∷◌, ◌++◌, IfOk, OnOk, OnErr, string_bytes, decimal};
+ghost use Rattle.std.specs.Prelude.{◌≡◌, ◌+◌, ◌<◌, ◌≤◌, [], ◌∷◌, ◌++◌, IfOk, string_bytes, decimal};
 ghost use Rattle.basis.specs.Answers.{spoken};
-ghost use Rattle.schedule.specs.Lines.{line_of, lines_from, BeginsWith};
+ghost use Rattle.schedule.specs.Lines.{line_of, lines_from, Adds};
 
 use basis::answer::Answer;
 use basis::refusal::Refusal;
@@ -54,8 +54,7 @@ fn five_digits(number: usize) -> [u8; 5]
 // Adds a number. Most lines of a long schedule have four or five digits, which are written at once.
 #[inline(always)]
 fn push_number(text: &mut String, number: usize) -> Result<(), AllocError>
-    ensures ok { OnOk result (string_bytes text.new ≡ string_bytes text.old ++ decimal number) }
-    ensures err { OnErr result (BeginsWith (string_bytes text.new) (string_bytes text.old)) }
+    ensures { Adds (string_bytes text.old) (string_bytes text.new) result (decimal number) }
 {
     if 1000 <= number && number < 10000 {
         let digits = four_digits(number);
@@ -71,8 +70,7 @@ fn push_number(text: &mut String, number: usize) -> Result<(), AllocError>
 
 // Adds what stands behind the number in the line of a refusal.
 fn push_refusal(text: &mut String, refusal: Refusal) -> Result<(), AllocError>
-    ensures ok { OnOk result (string_bytes text.new ≡ string_bytes text.old ++ 32 ∷ (spoken (Answer.Refused refusal) ++ 10 ∷ [])) }
-    ensures err { OnErr result (BeginsWith (string_bytes text.new) (string_bytes text.old)) }
+    ensures { Adds (string_bytes text.old) (string_bytes text.new) result (32 ∷ (spoken (Answer.Refused refusal) ++ 10 ∷ [])) }
 {
     text.push_str(" refused ")?;
     push_number(text, usize::from(u8::from(refusal)))?;
@@ -83,8 +81,7 @@ fn push_refusal(text: &mut String, refusal: Refusal) -> Result<(), AllocError>
 // where memory runs out.
 #[inline(always)]
 fn push_answer(text: &mut String, answer: Answer) -> Result<(), AllocError>
-    ensures ok { OnOk result (string_bytes text.new ≡ string_bytes text.old ++ 32 ∷ (spoken answer ++ 10 ∷ [])) }
-    ensures err { OnErr result (BeginsWith (string_bytes text.new) (string_bytes text.old)) }
+    ensures { Adds (string_bytes text.old) (string_bytes text.new) result (32 ∷ (spoken answer ++ 10 ∷ [])) }
 {
     match answer {
         Answer::No => text.push_str(" no\n"),
@@ -99,8 +96,7 @@ fn push_answer(text: &mut String, answer: Answer) -> Result<(), AllocError>
 // Adds the line of a record: its number, a space, the answer, and a line feed.
 #[inline(always)]
 pub fn push_line(text: &mut String, number: usize, answer: Answer) -> Result<(), AllocError>
-    ensures ok { OnOk result (string_bytes text.new ≡ string_bytes text.old ++ line_of number answer) }
-    ensures err { OnErr result (BeginsWith (string_bytes text.new) (string_bytes text.old)) }
+    ensures { Adds (string_bytes text.old) (string_bytes text.new) result (line_of number answer) }
 {
     push_number(text, number)?;
     push_answer(text, answer)
@@ -109,8 +105,7 @@ pub fn push_line(text: &mut String, number: usize, answer: Answer) -> Result<(),
 // Adds the lines of answers one after another, the first with that number.
 #[tactic(auto, using(std::proofs::lemmas::Grind::common_steps, crate::proofs::Numbered::lines_more), unfolding(crate::specs::Lines::lines_from))]
 pub fn push_lines(text: &mut String, first: u16, answers: &[Answer]) -> Result<(), AllocError>
-    ensures ok { OnOk result (string_bytes text.new ≡ string_bytes text.old ++ lines_from first answers.now) }
-    ensures err { OnErr result (BeginsWith (string_bytes text.new) (string_bytes text.old)) }
+    ensures { Adds (string_bytes text.old) (string_bytes text.new) result (lines_from first answers.now) }
 {
     for (index, answer) in answers.iter().enumerate() {
         push_line(text, usize::from(first) + index, *answer)?;

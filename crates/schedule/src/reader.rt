@@ -94,8 +94,8 @@ impl<'a> Reader<'a> {
     {
         Reader {
             rest: left,
-            total: self.total,
             first: false,
+            ..self
         }
     }
 
