@@ -30,7 +30,9 @@ fn blank_cells(heap: Global, count: u16) -> Result<Vec<Cell<Sector>>, AllocError
     Ok(vec![in heap; blank; usize::from(count)]?)
 }
 
-// Runs the calls on an index made over these cells, if making takes their sizes.
+// Runs the calls on an index made over these cells, if making takes their sizes. It is called and not inlined, so that the run over each scheme is
+// compiled by itself.
+#[inline(never)]
 fn run_over<S: Scheme>(
     scheme: &mut S,
     cells: &mut [Cell<Sector>],
@@ -56,6 +58,7 @@ fn run_over<S: Scheme>(
 
 // The answers of the calls on an index of so many cells with that window, over the scheme; refused where making refuses these sizes. Two Results,
 // one in the other: `?` passes on that memory ran out, and a refusal is answered.
+#[inline(never)]
 fn answers_over<S: Scheme>(
     heap: Global,
     scheme: &mut S,
