@@ -44,7 +44,8 @@ fn show<S: Scheme>(slip: &Slip, index: &mut Index<'_, Wear, S>, mask: &mut Mask,
     }
 }
 
-// The slip of a task, of the host's and the cleaner's.
+// The slip of a task, of the host's and the cleaner's. `Marks::of` chooses in the same way and is another
+// function: it gives a mark by value, and a slip can only be lent.
 fn slip_of<'a>(task: Task, host: &'a Slip, cleaner: &'a Slip) -> &'a Slip
     ensures { result.now.seat ≡ seat_by host.now.seat cleaner.now.seat task }
 {
