@@ -1,8 +1,10 @@
 // Compares the replays on all schedules of a folder, byte for byte with the text expected, and then times them.
 //
-//     harness FOLDER [compare]
+//     harness FOLDER TIMES
+//     harness FOLDER compare
 //
-// FOLDER is what generate.py wrote. With `compare` nothing is timed. Status 1 where a text differs.
+// FOLDER is what generate.py wrote. TIMES is a file that keeps the times of each case: those that harnesses with the code at other places
+// left there count too, and this one's are added. With `compare` nothing is timed. Status 1 where a text differs.
 #define _POSIX_C_SOURCE 200809L
 
 #include "replay.h"
@@ -73,7 +75,11 @@ struct schedule {
     double windows;
     double met;
     double answered;
+    // The time with the code at the place that it has here, the best over all places so far, the sum of their logarithms, and how many they are.
+    double here[PROGRAMS];
     double ns[PROGRAMS];
+    double logs[PROGRAMS];
+    int places;
 };
 
 static void fail(const char *what, const char *name)
@@ -110,7 +116,7 @@ static void load(struct schedule *s, const char *folder)
     s->bytes = read_file(folder, s->name, "schedule", &s->len);
     s->expected = read_file(folder, s->name, "expected", &s->expected_len);
     for (int p = 0; p < PROGRAMS; p++)
-        s->ns[p] = INFINITY;
+        s->here[p] = INFINITY;
 }
 
 static void unload(struct schedule *s)
@@ -177,7 +183,7 @@ static void time_case(struct schedule *s, uint8_t *out)
     }
     for (int round = 0; round < ROUNDS; round++)
         for (int p = 0; p < PROGRAMS; p++)
-            s->ns[p] = fmin(s->ns[p], time_batch(&programs[p], s, out, times[p]));
+            s->here[p] = fmin(s->here[p], time_batch(&programs[p], s, out, times[p]));
 }
 
 static void time_all(struct schedule *all, int count)
@@ -189,6 +195,48 @@ static void time_all(struct schedule *all, int count)
         for (int i = 0; i < count; i++)
             time_case(&all[i], out);
     free(out);
+}
+
+// What other places of the code took, as they left it in the file; a file that is not there says nothing.
+static void read_times(struct schedule *all, int count, const char *path)
+{
+    FILE *file = fopen(path, "r");
+    for (int i = 0; i < count; i++) {
+        struct schedule *s = &all[i];
+        s->places = 0;
+        for (int p = 0; p < PROGRAMS; p++) {
+            s->ns[p] = INFINITY;
+            s->logs[p] = 0;
+        }
+        if (file == NULL)
+            continue;
+        if (fscanf(file, "%d", &s->places) != 1)
+            fail("cannot be read", path);
+        for (int p = 0; p < PROGRAMS; p++)
+            if (fscanf(file, "%lf %lf", &s->ns[p], &s->logs[p]) != 2)
+                fail("cannot be read", path);
+    }
+    if (file != NULL)
+        fclose(file);
+}
+
+static void write_times(struct schedule *all, int count, const char *path)
+{
+    FILE *file = fopen(path, "w");
+    if (file == NULL)
+        fail("cannot be written", path);
+    for (int i = 0; i < count; i++) {
+        struct schedule *s = &all[i];
+        fprintf(file, "%d", ++s->places);
+        for (int p = 0; p < PROGRAMS; p++) {
+            s->ns[p] = fmin(s->ns[p], s->here[p]);
+            s->logs[p] += log(s->here[p]);
+            fprintf(file, " %.9g %.9g", s->ns[p], s->logs[p]);
+        }
+        fprintf(file, "\n");
+    }
+    if (fclose(file) != 0)
+        fail("cannot be written", path);
 }
 
 static void print_head(void)
@@ -237,14 +285,17 @@ static void print_summary(const struct schedule *all, int count)
 {
     printf("\nwindows/s are windows of whole replays, which also read the records and write the text; / C compares windows/s\n");
     for (int p = 1; p < PROGRAMS; p++) {
-        double sum = 0, least = INFINITY, most = 0;
+        double sum = 0, least = INFINITY, most = 0, here = 0, mean = 0;
         for (int i = 0; i < count; i++) {
             double ratio = all[i].ns[0] / all[i].ns[p];
             sum += log(ratio);
+            here += log(all[i].here[0] / all[i].here[p]);
+            mean += (all[i].logs[0] - all[i].logs[p]) / all[i].places;
             least = fmin(least, ratio);
             most = fmax(most, ratio);
         }
-        printf("%s / C: %.3f to %.3f, geometric mean %.3f\n", programs[p].name, least, most, exp(sum / count));
+        printf("%s / C: %.3f to %.3f, geometric mean %.3f (with the code at this place alone %.3f, the mean over all places %.3f)\n",
+            programs[p].name, least, most, exp(sum / count), exp(here / count), exp(mean / count));
     }
     for (int p = 0; p < PROGRAMS; p++)
         print_fit(all, count, p);
@@ -299,9 +350,9 @@ static struct schedule *load_timed(const char *folder, int *count)
 
 int main(int argc, char **argv)
 {
-    if (argc < 2)
-        fail("usage: harness FOLDER [compare]", "arguments");
-    bool timing = argc < 3 || strcmp(argv[2], "compare") != 0;
+    if (argc != 3)
+        fail("usage: harness FOLDER TIMES | harness FOLDER compare", "arguments");
+    bool timing = strcmp(argv[2], "compare") != 0;
     int count = 0;
     int compared = compare_names(argv[1]);
     struct schedule *all = load_timed(argv[1], &count);
@@ -313,7 +364,9 @@ int main(int argc, char **argv)
     printf(" and the model\n");
     if (timing) {
         fflush(stdout);
+        read_times(all, count, argv[2]);
         time_all(all, count);
+        write_times(all, count, argv[2]);
         print_head();
         for (int i = 0; i < count; i++)
             print_row(&all[i]);

@@ -1,38 +1,80 @@
 -- The walk, one cell after another. Assumes nothing.
-use Rattle.std.proofs.Common.{◌≡◌, ℕ, suc, ◌+◌, ◌-◌, ◌<◌, ◌≤◌, Bool, true, false, cond, ◌&&◌, List, Some, Option, sym, refl, ap, ◌∙◌, arith}
+use Rattle.std.proofs.Common.{◌≡◌, ℕ, zero, suc, ◌+◌, ◌-◌, ◌<◌, ◌≤◌, Bool, true, false, cond, ◌&&◌, List, map, length, get_or, Some, Option, sym, refl, ap, ◌∙◌, arith}
 use Rattle.std.proofs.lemmas.Bool.{and_parts, cond-true}
+use Rattle.std.proofs.lemmas.List.{length-map}
+use Rattle.std.proofs.lemmas.Option.{slice_get_within}
 use Rattle.std.specs.List.{slice_get}
 use Rattle.list_law.specs.Call.{Cell, Link, Met, bad, passed, present, absent, judged, met, look, followed, walk}
+use Rattle.list_cells.specs.declared.cell.Cell as lent
+use Rattle.list_cells.specs.Behind.{behind, goes_on, behind_at}
+use Rattle.list_cells.specs.Views.{cell_of}
+use Rattle.list_cells.proofs.Viewed.{viewed}
 
-module _ {K : Type 0} (below : K → K → Bool) (cells : List (Cell K)) (x : K) (room i : ℕ) where
+-- a walk that passes no cell ends there
+stays : (go : ℕ → Link → Met) (m : Met) → ((p : ℕ) (l : Link) → m ≡ passed p l → ⊥) → m ≡ followed m go
+stays go bad never = refl
+stays go (passed p l) never = absurd (never p l refl)
+stays go (present lead p l) never = refl
+stays go (absent lead l) never = refl
+
+module _ {K : Type 0} (below : K → K → Bool) (cells : List (Cell K)) (x : K) where
+  -- a walk looks once, and goes on behind the cell that it passed
+  looks : (room : ℕ) (lead : Option ℕ) (link : Link) → followed (look below cells x lead link) (λ p l. behind below cells x room p l) ≡ walk below cells x room lead link
+  unfolding behind walk
+  looks zero lead link = stops (look below cells x lead link)
+    where
+      stops : (m : Met) → followed m (λ p l. passed p l) ≡ m
+      stops bad = refl
+      stops (passed p l) = refl
+      stops (present lead p l) = refl
+      stops (absent lead l) = refl
+  looks (suc room) lead link = goes (look below cells x lead link) (λ p l. looks room (Some p) l)
+    where
+      goes : (m : Met) → ((p : ℕ) (l : Link) → behind below cells x (suc room) p l ≡ walk below cells x room (Some p) l) → followed m (λ p l. behind below cells x (suc room) p l) ≡ followed m (λ p l. walk below cells x room (Some p) l)
+      goes bad rest = refl
+      goes (passed p l) rest = rest p l
+      goes (present lead p l) rest = refl
+      goes (absent lead l) rest = refl
+
+  -- the first cell is passed
+  pub first_passed : (room : ℕ) (lead : Option ℕ) (link : Link) (p : ℕ) (l : Link) → passed p l ≡ look below cells x lead link → behind below cells x room p l ≡ walk below cells x room lead link
+  first_passed room lead link p l e = ap (λ m. followed m (λ q k. behind below cells x room q k)) e ∙ looks room lead link
+
+  -- the first cell is not passed
+  pub first_ends : (room : ℕ) (lead : Option ℕ) (link : Link) (m : Met) → ((p : ℕ) (l : Link) → m ≡ passed p l → ⊥) → m ≡ look below cells x lead link → m ≡ walk below cells x room lead link
+  first_ends room lead link m never e =
+      let go = λ (q : ℕ) (k : Link). behind below cells x room q k in
+      stays go m never ∙ ap (λ o. followed o go) e ∙ looks room lead link
+
+  -- a walk behind a cell may pass one cell more than it has room for, since it meets that one
+  pub walk_one_more : (room : ℕ) (p : ℕ) (l : Link) → behind below cells x (suc room) p l ≡ walk below cells x room (Some p) l
+  unfolding behind
+  walk_one_more room p l = looks room (Some p) l
+
+module _ {K : Type 0} (below : K → K → Bool) (cells : List (Cell K)) (x : K) (more i : ℕ) where
   -- room for one cell is used
-  one_less : i < room → room - i ≡ suc (room - (i + 1))
+  one_less : i < more → more - i ≡ suc (more - (i + 1))
   one_less h = omega arith
 
   -- a cell is passed, and the walk goes on from it
-  pub walk_on : (lead : Option ℕ) (link : Link) (p : ℕ) (l : Link) → i < room → passed p l ≡ look below cells x lead link → walk below cells x (room - (i + 1)) (Some p) l ≡ walk below cells x (room - i) lead link
-  unfolding walk
+  pub walk_on : (lead : ℕ) (link : Link) (p : ℕ) (l : Link) → i < more → passed p l ≡ look below cells x (Some lead) link → behind below cells x (more - (i + 1)) p l ≡ behind below cells x (more - i) lead link
+  unfolding behind
   walk_on lead link p l h e =
-      ap (λ m. followed m (λ q k. walk below cells x (room - (i + 1)) (Some q) k)) e ∙ ap (λ n. walk below cells x n lead link) (sym (one_less h))
+      ap (λ m. followed m (λ q k. behind below cells x (more - (i + 1)) q k)) e ∙ ap (λ n. behind below cells x n lead link) (sym (one_less h))
 
   -- the walk ends where no cell is passed
-  pub walk_ends : (lead : Option ℕ) (link : Link) (m : Met) → i < room → ((p : ℕ) (l : Link) → m ≡ passed p l → ⊥) → m ≡ look below cells x lead link → m ≡ walk below cells x (room - i) lead link
-  unfolding walk
+  pub walk_ends : (lead : ℕ) (link : Link) (m : Met) → i < more → ((p : ℕ) (l : Link) → m ≡ passed p l → ⊥) → m ≡ look below cells x (Some lead) link → m ≡ behind below cells x (more - i) lead link
+  unfolding behind
   walk_ends lead link m h never e =
-      stays m never ∙ ap (λ o. followed o (λ q k. walk below cells x (room - (i + 1)) (Some q) k)) e ∙ ap (λ n. walk below cells x n lead link) (sym (one_less h))
-    where
-      stays : (m : Met) → ((p : ℕ) (l : Link) → m ≡ passed p l → ⊥) → m ≡ followed m (λ q k. walk below cells x (room - (i + 1)) (Some q) k)
-      stays bad never = refl
-      stays (passed p l) never = absurd (never p l refl)
-      stays (present lead p l) never = refl
-      stays (absent lead l) never = refl
+      let go = λ (q : ℕ) (k : Link). behind below cells x (more - (i + 1)) q k in
+      stays go m never ∙ ap (λ o. followed o go) e ∙ ap (λ n. behind below cells x n lead link) (sym (one_less h))
 
-  -- the last link
-  pub walk_last : (lead : Option ℕ) (link : Link) → room ≤ i → look below cells x lead link ≡ walk below cells x (room - i) lead link
-  unfolding walk
-  walk_last lead link h = ap (λ n. walk below cells x n lead link) z
+  -- the last cell is passed, and the window ends there
+  pub walk_last : (lead : ℕ) (link : Link) → more ≤ i → passed lead link ≡ behind below cells x (more - i) lead link
+  unfolding behind
+  walk_last lead link h = ap (λ n. behind below cells x n lead link) z
     where
-      z : 0 ≡ room - i
+      z : 0 ≡ more - i
       z = omega arith
 
 module _ {K : Type 0} (below : K → K → Bool) (cells : List (Cell K)) (x : K) (lead : Option ℕ) (p : ℕ) (c : Cell K) (found : Some c ≡ slice_get cells p) where
@@ -55,3 +97,19 @@ module _ {K : Type 0} (below : K → K → Bool) (cells : List (Cell K)) (x : K)
       go true false true e is = let z : ◌≡◌ {A = ℕ} 0 1 = cc in absurd (omega arith)
       go true false false e is = let z : ◌≡◌ {A = ℕ} 0 1 = cc in absurd (omega arith)
       go false b d e is = let z : ◌≡◌ {A = ℕ} 0 1 = cc in absurd (omega arith)
+
+-- a walk behind the cell at a place is one behind that place
+pub from_here : {K : Type 0} (below : K → K → Bool) (cells : List (Cell K)) (x : K) (more p : ℕ) (c : Cell K) → slice_get cells p ≡ Some c → behind below cells x more p c.link ≡ behind_at below cells x more p
+from_here below cells x more p c read = sym (ap (goes_on below cells x more p) read)
+
+-- the cell at a place, as the views have it, where the place is also known by another number
+pub read_at : {K : Type 0} (cells : List (lent.Cell K)) (at p : ℕ) (d : lent.Cell K) → at ≡ p → p < length cells → slice_get (map cell_of cells) p ≡ Some (cell_of (get_or cells at d))
+read_at cells at p d e h =
+    viewed cells p d h ∙ ap (λ n. Some (cell_of (get_or cells n d))) (sym e)
+
+-- a place at which the views have a cell
+pub there : {K : Type 0} (cells : List (lent.Cell K)) (p : ℕ) (c : Cell K) → Some c ≡ slice_get (map cell_of cells) p → p < length cells
+there cells p c found =
+    let within : p < length (map cell_of cells) = slice_get_within (map cell_of cells) p c (sym found) in
+    let same : ◌≡◌ (length (map cell_of cells)) (length cells) = length-map cells cell_of in
+    omega arith

@@ -1,13 +1,13 @@
 // The walk of a window along the links.
-ghost use Rattle.std.specs.Prelude.{◌≡◌, pred, ◌&&◌, map, Some};
+ghost use Rattle.std.specs.Prelude.{◌≡◌, pred, ◌<◌, ◌&&◌, map, length, Some, None};
 ghost use Rattle.std.specs.List.{slice_get};
 ghost use Rattle.marks.specs.Marks.{numbered};
-ghost use Rattle.list_law.specs.Call.{met, look, walk, walked};
+ghost use Rattle.list_law.specs.Call.{met, walk, walked};
+ghost use Rattle.list_cells.specs.Behind.{behind_at};
 ghost use Rattle.list_cells.specs.Links.{place_named};
 ghost use Rattle.list_cells.specs.Views.{cell_of, found_of, met_of};
 
 use crate::cell::Cell;
-use crate::link::Link;
 use basis::bounded::Place;
 use keys::key::Key;
 
@@ -58,21 +58,6 @@ fn judge<K: Key>(cell: &Cell<K>, target: K, lead: Option<Place>, place: Place) -
     Some(Met::Present { lead, place, link })
 }
 
-// One link followed.
-fn follow<K: Key>(
-    cells: &[Cell<K>],
-    target: K,
-    lead: Option<Place>,
-    link: Option<Place>,
-) -> Option<Met>
-    ensures { met_of result ≡ look K.Key.below (map cell_of cells.now) target (numbered lead) (numbered link) }
-{
-    let Some(place) = link else {
-        return Some(Met::Absent { lead, link });
-    };
-    judge(cell_at(cells, place)?, target, lead, place)
-}
-
 // Whether a walk to the target goes on behind this cell: it is listed, and its key is below the target.
 fn passes<K: Key>(cell: &Cell<K>, target: K) -> bool
     ensures { result ≡ (cell.now.listed && K.Key.below cell.now.key target) }
@@ -80,35 +65,62 @@ fn passes<K: Key>(cell: &Cell<K>, target: K) -> bool
     cell.listed && cell.key.is_below(target)
 }
 
-// Links followed past up to `room` cells; one more that is below the target ends the window there.
+// The walk behind a cell that it passed, at the place `lead`: links followed past up to `more` cells, where the window ends. `at` is the same place as a
+// wide number: where the place alone goes along, each turn widens it anew, on the way from one load to the next.
 #[inline(always)]
-fn walk_links<K: Key>(
-    cells: &[Cell<K>],
-    target: K,
-    room: u8,
-    lead: Option<Place>,
-    link: Link,
-) -> Option<Met>
-    ensures { met_of result ≡ walk K.Key.below (map cell_of cells.now) target room (numbered lead) (place_named link.number) }
+fn walk_on<K: Key>(cells: &[Cell<K>], target: K, more: usize, lead: Place) -> Option<Met>
+    requires { lead.number < length cells.now }
+    ensures { met_of result ≡ behind_at K.Key.below (map cell_of cells.now) target more lead.number }
 {
     let mut lead = lead;
-    let mut link = link;
+    let mut at = lead.index();
     // the room of a window is a number, and no slice
-    for _passed in 0..room {
-        let Some(place) = link.place() else {
-            return Some(Met::Absent { lead, link: None });
+    for _passed in 0..more {
+        let Some(place) = cells[at].link.place() else {
+            return Some(Met::Absent {
+                lead: Some(lead),
+                link: None,
+            });
         };
-        let cell = cell_at(cells, place)?;
-        if !passes(cell, target) {
-            return judge(cell, target, lead, place);
+        let next = cell_at(cells, place)?;
+        if !passes(next, target) {
+            return judge(next, target, Some(lead), place);
         }
-        lead = Some(place);
-        link = cell.link;
+        lead = place;
+        at = place.index();
     }
-    follow(cells, target, lead, link.place())
+    Some(Met::Passed {
+        place: lead,
+        link: cells[at].link.place(),
+    })
 }
 
-// The walk of a window: from behind the marked cell, which must be a listed one, or from the head.
+// The walk of a window from the head.
+#[inline(always)]
+fn walk_from_head<K: Key>(
+    cells: &[Cell<K>],
+    head: Option<Place>,
+    target: K,
+    room: usize,
+) -> Option<Met>
+    ensures { met_of result ≡ walk K.Key.below (map cell_of cells.now) target room None (numbered head) }
+{
+    let Some(place) = head else {
+        return Some(Met::Absent {
+            lead: None,
+            link: None,
+        });
+    };
+    let cell = cell_at(cells, place)?;
+    if passes(cell, target) {
+        walk_on(cells, target, room, place)
+    } else {
+        judge(cell, target, None, place)
+    }
+}
+
+// The walk of a window: from behind the marked cell, which must be a listed one, or from the head. It meets one cell more than it has room to pass,
+// and ends there.
 #[inline(always)]
 pub fn walk_from<K: Key>(
     cells: &[Cell<K>],
@@ -119,12 +131,13 @@ pub fn walk_from<K: Key>(
 ) -> Option<Met>
     ensures { met_of result ≡ walked K.Key.below (map cell_of cells.now) (numbered head) target room (numbered mark) }
 {
+    let room = usize::from(room);
     let Some(place) = mark else {
-        return walk_links(cells, target, room, None, Link::from(head));
+        return walk_from_head(cells, head, target, room);
     };
     let cell = cell_at(cells, place)?;
     if cell.listed {
-        walk_links(cells, target, room, mark, cell.link)
+        walk_on(cells, target, room + 1, place)
     } else {
         None
     }

@@ -70,6 +70,8 @@ impl TryFrom<u8> for SchemeName {
 
     ghost try_from_gives = { λ number r. r ≡ ok_or (scheme_named number) BadRecord };
 
+    // called and not inlined: one record in a schedule has a scheme
+    #[inline(never)]
     fn try_from(number: u8) -> Result<SchemeName, Refusal> {
         match number {
             1 => Ok(SchemeName::Full),
@@ -155,6 +157,7 @@ impl TryFrom<&[u8]> for Record {
 
     ghost try_from_gives = { λ bytes r. r ≡ ok_or (decoded bytes.now) BadRecord };
 
+    #[inline(always)]
     fn try_from(bytes: &[u8]) -> Result<Record, Refusal> {
         match bytes {
             [call, seat] => seat_record(*call, *seat),

@@ -22,7 +22,8 @@ use marks::version::Version;
 use records::record::SchemeName;
 use std::alloc::{AllocError, Global};
 
-// So many cells, with nothing in them.
+// So many cells, with nothing in them. It is called and not inlined: once for a schedule.
+#[inline(never)]
 fn blank_cells(heap: Global, count: u16) -> Result<Vec<Cell<Sector>>, AllocError>
     ensures { IfOk result (λ v. map cell_of v.items ≡ blank count) }
 {

@@ -4,5 +4,5 @@ use Rattle.schedule.proofs.lines.five_digits.Goals as goal
 
 pub returns : goal.returns
 returns c =
-    (λ i. c.digit.ensures i ∷ (c.digit-2.ensures i ∷ (c.digit-3.ensures i ∷ (c.digit-4.ensures i ∷ (c.digit-5.ensures i ∷ [])))))
+    (λ i. c.digit.ensures i ∷ (c.last_digit.ensures i ∷ (c.last_digit-2.ensures i ∷ (c.last_digit-3.ensures i ∷ (c.last_digit-4.ensures i ∷ [])))))
     ∙ five c.args.number (omega arith) (omega arith)

@@ -1,0 +1,26 @@
+-- The marked cell is listed, and the walk goes on behind it.
+use Rattle.std.proofs.Common.{◌≡◌, suc, ◌+◌, map, sym, ap, ◌∙◌, arith}
+use Rattle.std.proofs.lemmas.Bool.{cond-true}
+use Rattle.marks.specs.Marks.{numbered}
+use Rattle.list_law.specs.Call.{walked, resumed}
+use Rattle.list_cells.specs.Behind.{behind}
+use Rattle.list_cells.specs.Views.{cell_of}
+use Rattle.list_cells.proofs.Walks.{walk_one_more, from_here}
+use Rattle.list_cells.proofs.walk.walk_from.Goals as goal
+
+pub returns-then-cell : goal.returns-then-cell
+returns-then-cell g c =
+    let below = g.K.Key.below in
+    let cells = map cell_of c.args.cells.now in
+    let x = c.args.target in
+    let place = c.in-Some.place.number in
+    let cell = cell_of c.in_ok-cell.cell.now in
+    let read : ◌≡◌ c.from-room.result c.args.room = c.from-room.ensures in
+    let more : ◌≡◌ (c.from-room.result + 1) (suc c.args.room) = omega arith in
+    c.walk_on.ensures
+    ∙ sym (from_here below cells x (c.from-room.result + 1) place cell (sym c.in_ok-cell.ensures))
+    ∙ ap (λ n. behind below cells x n place cell.link) more
+    ∙ walk_one_more below cells x c.args.room place cell.link
+    ∙ sym (cond-true cell.listed _ _ c.if-cell.true)
+    ∙ ap (resumed below cells x c.args.room place) c.in_ok-cell.ensures
+    ∙ ap (λ m. walked below cells (numbered c.args.head) x c.args.room (numbered m)) (sym c.in-Some.is)
