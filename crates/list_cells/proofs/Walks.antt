@@ -113,3 +113,25 @@ there cells p c found =
     let within : p < length (map cell_of cells) = slice_get_within (map cell_of cells) p c (sym found) in
     let same : ◌≡◌ (length (map cell_of cells)) (length cells) = length-map cells cell_of in
     omega arith
+
+-- one turn of the walk behind a cell that it passed, at the place `lead`, which is also known by the number `at`; w is the whole walk
+module _ {K : Type 0} (below : K → K → Bool) (cells : List (lent.Cell K)) (x : K) (more i at lead : ℕ) (d : lent.Cell K) (w : Met) (same : at ≡ lead) (within : lead < length cells) (rest : behind_at below (map cell_of cells) x (more - i) lead ≡ w) where
+  -- what is left of the walk, by the cell's link
+  left : behind below (map cell_of cells) x (more - i) lead (cell_of (get_or cells at d)).link ≡ w
+  left = from_here below (map cell_of cells) x (more - i) lead (cell_of (get_or cells at d)) (read_at cells at lead d same within) ∙ rest
+
+  -- the next cell is passed
+  pub turn_goes_on : (place : ℕ) (next : Cell K) → i < more → Some place ≡ (cell_of (get_or cells at d)).link → Some next ≡ slice_get (map cell_of cells) place → (next.listed && below next.key x) ≡ true → behind_at below (map cell_of cells) x (more - (i + 1)) place ≡ w
+  turn_goes_on place next h named found e =
+      sym (from_here below (map cell_of cells) x (more - (i + 1)) place next (sym found))
+      ∙ walk_on below (map cell_of cells) x more i lead (cell_of (get_or cells at d)).link place next.link h (passed_here below (map cell_of cells) x (Some lead) place next found e ∙ ap (look below (map cell_of cells) x (Some lead)) named)
+      ∙ left
+
+  -- no cell is passed, and the walk ends
+  pub turn_ends : (m : Met) (link : Link) → i < more → link ≡ (cell_of (get_or cells at d)).link → ((p : ℕ) (l : Link) → m ≡ passed p l → ⊥) → m ≡ look below (map cell_of cells) x (Some lead) link → m ≡ w
+  turn_ends m link h named never e =
+      walk_ends below (map cell_of cells) x more i lead (cell_of (get_or cells at d)).link m h never (e ∙ ap (look below (map cell_of cells) x (Some lead)) named) ∙ left
+
+  -- there is no turn more
+  pub no_turn_more : more ≤ i → passed lead (cell_of (get_or cells at d)).link ≡ w
+  no_turn_more h = walk_last below (map cell_of cells) x more i lead (cell_of (get_or cells at d)).link h ∙ left
