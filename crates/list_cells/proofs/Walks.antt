@@ -28,13 +28,7 @@ module _ {K : Type 0} (below : K → K → Bool) (cells : List (Cell K)) (x : K)
       stops (passed p l) = refl
       stops (present lead p l) = refl
       stops (absent lead l) = refl
-  looks (suc room) lead link = goes (look below cells x lead link) (λ p l. looks room (Some p) l)
-    where
-      goes : (m : Met) → ((p : ℕ) (l : Link) → behind below cells x (suc room) p l ≡ walk below cells x room (Some p) l) → followed m (λ p l. behind below cells x (suc room) p l) ≡ followed m (λ p l. walk below cells x room (Some p) l)
-      goes bad rest = refl
-      goes (passed p l) rest = rest p l
-      goes (present lead p l) rest = refl
-      goes (absent lead l) rest = refl
+  looks (suc room) lead link = refl
 
   -- the first cell is passed
   pub first_passed : (room : ℕ) (lead : Option ℕ) (link : Link) (p : ℕ) (l : Link) → passed p l ≡ look below cells x lead link → behind below cells x room p l ≡ walk below cells x room lead link
@@ -49,25 +43,23 @@ module _ {K : Type 0} (below : K → K → Bool) (cells : List (Cell K)) (x : K)
   -- a walk behind a cell may pass one cell more than it has room for, since it meets that one
   pub walk_one_more : (room : ℕ) (p : ℕ) (l : Link) → behind below cells x (suc room) p l ≡ walk below cells x room (Some p) l
   unfolding behind
-  walk_one_more room p l = looks room (Some p) l
+  walk_one_more room p l = refl
 
 module _ {K : Type 0} (below : K → K → Bool) (cells : List (Cell K)) (x : K) (more i : ℕ) where
-  -- room for one cell is used
-  one_less : i < more → more - i ≡ suc (more - (i + 1))
-  one_less h = omega arith
+  -- room for one cell is used: what is left is a walk that has it
+  one_less : (lead : ℕ) (link : Link) → i < more → walk below cells x (more - (i + 1)) (Some lead) link ≡ behind below cells x (more - i) lead link
+  one_less lead link h = sym (walk_one_more below cells x (more - (i + 1)) lead link) ∙ ap (λ n. behind below cells x n lead link) used
+    where
+      used : suc (more - (i + 1)) ≡ more - i
+      used = omega arith
 
   -- a cell is passed, and the walk goes on from it
   pub walk_on : (lead : ℕ) (link : Link) (p : ℕ) (l : Link) → i < more → passed p l ≡ look below cells x (Some lead) link → behind below cells x (more - (i + 1)) p l ≡ behind below cells x (more - i) lead link
-  unfolding behind
-  walk_on lead link p l h e =
-      ap (λ m. followed m (λ q k. behind below cells x (more - (i + 1)) q k)) e ∙ ap (λ n. behind below cells x n lead link) (sym (one_less h))
+  walk_on lead link p l h e = first_passed below cells x (more - (i + 1)) (Some lead) link p l e ∙ one_less lead link h
 
   -- the walk ends where no cell is passed
   pub walk_ends : (lead : ℕ) (link : Link) (m : Met) → i < more → ((p : ℕ) (l : Link) → m ≡ passed p l → ⊥) → m ≡ look below cells x (Some lead) link → m ≡ behind below cells x (more - i) lead link
-  unfolding behind
-  walk_ends lead link m h never e =
-      let go = λ (q : ℕ) (k : Link). behind below cells x (more - (i + 1)) q k in
-      stays go m never ∙ ap (λ o. followed o go) e ∙ ap (λ n. behind below cells x n lead link) (sym (one_less h))
+  walk_ends lead link m h never e = first_ends below cells x (more - (i + 1)) (Some lead) link m never e ∙ one_less lead link h
 
   -- the last cell is passed, and the window ends there
   pub walk_last : (lead : ℕ) (link : Link) → more ≤ i → passed lead link ≡ behind below cells x (more - i) lead link

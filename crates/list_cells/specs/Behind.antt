@@ -1,12 +1,12 @@
 -- A walk that has passed a cell. Assumes nothing.
 use Rattle.std.specs.Prelude.{ℕ, zero, suc, Bool, Some, None, Option, List}
 use Rattle.std.specs.List.{slice_get}
-use Rattle.list_law.specs.Call.{Cell, Link, Met, bad, passed, look, followed}
+use Rattle.list_law.specs.Call.{Cell, Link, Met, bad, passed, walk}
 
--- what a walk gives whose last cell was passed at place p and has that link, and which may pass up to `more` cells
+-- what a walk gives that has passed a cell, at place p and with that link, and may still pass up to `more`: with none it has ended there
 unfoldable pub behind : {K : Type 0} → (K → K → Bool) → List (Cell K) → K → ℕ → ℕ → Link → Met
 behind below cs x zero p l = passed p l
-behind below cs x (suc more) p l = followed (look below cs x (Some p) l) (λ q k. behind below cs x more q k)
+behind below cs x (suc room) p l = walk below cs x room (Some p) l
 
 -- the same by the cell at place p
 abbrev pub goes_on : {K : Type 0} → (K → K → Bool) → List (Cell K) → K → ℕ → ℕ → Option (Cell K) → Met
