@@ -17,7 +17,8 @@ fn digit(value: usize) -> u8
     b'0' + value as u8
 }
 
-// The byte of the last digit of a number, by a tenth of it, rounded down. By what that leaves and no `%`: the machine code would divide once more.
+// The byte of the last digit of a number, by a tenth of it, rounded down: what ten times the tenth leaves. By `%` the machine code would divide once
+// more.
 fn last_digit(number: usize, tenth: usize) -> u8
     requires { tenth ≡ number / 10 }
     ensures { result ≡ 48 + number % 10 }
