@@ -46,7 +46,7 @@ module _ {K : Type 0} (below : K → K → Bool) (cells : List (Cell K)) (x : K)
   walk_one_more room p l = refl
 
 module _ {K : Type 0} (below : K → K → Bool) (cells : List (Cell K)) (x : K) (more i : ℕ) where
-  -- room for one cell is used: what is left is a walk that has it
+  -- a turn uses the room for one cell: a walk with what remains of it is what was left behind the lead
   one_less : (lead : ℕ) (link : Link) → i < more → walk below cells x (more - (i + 1)) (Some lead) link ≡ behind below cells x (more - i) lead link
   one_less lead link h = sym (walk_one_more below cells x (more - (i + 1)) lead link) ∙ ap (λ n. behind below cells x n lead link) used
     where
