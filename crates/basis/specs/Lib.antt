@@ -1,4 +1,4 @@
-pub mod Told
+pub mod Cases
 pub mod Kinds
 pub mod Refusals
 pub mod Answers

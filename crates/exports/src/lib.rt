@@ -4,7 +4,7 @@
 ghost use Rattle.std.specs.Prelude.{◌≡◌};
 ghost use Rattle.exports.specs.Written.{Placed, Exported};
 
-use keys::sector::Sector;
+use key_types::sector::Sector;
 use list_cells::cell::Cell;
 use replay::replay;
 use std::alloc::Global;

@@ -1,8 +1,4 @@
-// What a key is, and the keys: sectors and wear keys.
+// What a key is: any kind with a total order.
 #![tactic(auto)]
 
 pub mod key;
-pub mod sector;
-#[cfg(test)]
-mod tests;
-pub mod wear;

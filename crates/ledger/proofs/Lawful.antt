@@ -3,7 +3,7 @@
 use Rattle.std.proofs.Common.{◌≡◌, ℕ, suc, ◌+◌, ◌*◌, ◌≤◌, Bool, true, false, cond, ◌⊎◌, List, [], ◌∷◌, ◌++◌, refl, subst, inl, inr, arith}
 use Rattle.basis.specs.declared.kind.Kind.{Kind}
 use Rattle.ledger.specs.Ledger.{Ledger, empty, reply}
-use Rattle.ledger.specs.Law.{Event, Index, Run, made, more, Each, Answers, Lawful, Bounded, fed, answered, replies, count, changes, steps_of, ends_of, begins_of, changed_beside}
+use Rattle.ledger.specs.Law.{Event, Index, Run, made, more, Each, Answers, Lawful, AnswersInTime, fed, answered, replies, count, changes, steps_of, ends_of, begins_of, changed_beside}
 
 -- One call, with all that the law needs of it. `Inv` ties the ledger to the state. `Held s t c` says that c waits of seat t in a row
 -- are behind it in state s, as long as nobody else changes the set; `most` is how many there can be.
@@ -87,7 +87,7 @@ module _ {K : Type 0} (below : K → K → Bool) (x : Index K) (n w : ℕ) (Inv 
         onward (inl p) = went later s₀ e s (called (fed below n (later ++ start)) s₀ e s (inv_of r) d) quiet p (ends_of t e) (steps_of t e) (changed_beside t (fed below n (later ++ start)) e) refl refl refl
         onward (inr h) = inr (ended_before e later h)
 
-  bounded_of : {es : List (Event K)} {s : x.State} → Run x n w es s → x.strict ≡ true → Bounded below n limit es
+  bounded_of : {es : List (Event K)} {s : x.State} → Run x n w es s → x.strict ≡ true → AnswersInTime below n limit es
   bounded_of {es} {s} r strict t kind y later b earlier is what begun-here quiet steps =
       last (pending strict t (b ∷ earlier) later s (subst (λ l. Run x n w l s) is r) quiet)
     where

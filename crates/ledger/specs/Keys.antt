@@ -15,7 +15,7 @@ Rises below (x ∷ xs) = Every (below x) xs × Rises below xs
 pub data Permuted {K : Type 0} : List K → List K → Type 0 where
   none : Permuted [] []
   keep : {x : K} {xs ys : List K} → Permuted xs ys → Permuted (x ∷ xs) (x ∷ ys)
-  swap : {x y : K} {xs : List K} → Permuted (x ∷ (y ∷ xs)) (y ∷ (x ∷ xs))
+  exchange : {x y : K} {xs : List K} → Permuted (x ∷ (y ∷ xs)) (y ∷ (x ∷ xs))
   then : {xs ys zs : List K} → Permuted xs ys → Permuted ys zs → Permuted xs zs
 
 -- how many keys pass the test `far` and are below x

@@ -5,7 +5,7 @@ use Rattle.basis.specs.declared.kind.Kind.{Kind}
 use Rattle.basis.specs.declared.kind.Kind.TheVariants.{Lookup, Insert, Remove}
 use Rattle.basis.specs.declared.refusal.Refusal.TheVariants.{BadLink}
 use Rattle.basis.specs.declared.answer.Answer.{Answer}
-use Rattle.basis.specs.declared.answer.Answer.TheVariants.{No, Yes, Ok, Wait, Full, Refused}
+use Rattle.basis.specs.declared.answer.Answer.TheVariants.{No, Yes, Wait, Full, Refused}
 use Rattle.ledger.specs.Ledger.{Ledger, Call, Told, waited, Row, away, idle, running, begin, steps, begins, empty, reply}
 
 -- a call that was made, the index's answer, and what the ledger is told
@@ -57,7 +57,7 @@ Each P (more {es = es} {s = s} {e = e} {s' = s'} r d) = P es s e s' × Each P r
 abbrev pub is_accepted : Answer → Bool
 is_accepted No = true
 is_accepted Yes = true
-is_accepted Ok = true
+is_accepted Answer.Ok = true
 is_accepted Wait = true
 is_accepted Full = true
 is_accepted (Refused r) = false
@@ -66,7 +66,7 @@ is_accepted (Refused r) = false
 abbrev pub is_final : Answer → Bool
 is_final No = true
 is_final Yes = true
-is_final Ok = false
+is_final Answer.Ok = false
 is_final Wait = false
 is_final Full = true
 is_final (Refused r) = false
@@ -74,7 +74,7 @@ is_final (Refused r) = false
 abbrev pub is_yes : Answer → Bool
 is_yes No = false
 is_yes Yes = true
-is_yes Ok = false
+is_yes Answer.Ok = false
 is_yes Wait = false
 is_yes Full = false
 is_yes (Refused r) = false
@@ -114,8 +114,8 @@ changes below n t [] earlier = 0
 changes below n t (e ∷ later) earlier = cond (changed_beside t (fed below n (later ++ earlier)) e) 1 0 + changes below n t later earlier
 
 -- an operation of seat t, begun at b and not begun again since, that has had `limit` accepted steps has answered yes, no or full
-abbrev pub Bounded : {K : Type 0} → (K → K → Bool) → ℕ → (ℕ → Kind → ℕ → ℕ) → List (Event K) → Type 0
-Bounded {K} below n limit es =
+abbrev pub AnswersInTime : {K : Type 0} → (K → K → Bool) → ℕ → (ℕ → Kind → ℕ → ℕ) → List (Event K) → Type 0
+AnswersInTime {K} below n limit es =
     (t : ℕ) (k : Kind) (x : K) (later : List (Event K)) (b : Event K) (earlier : List (Event K)) →
     es ≡ later ++ b ∷ earlier →
     b.call.what ≡ begin k x → begins_of t b ≡ true → count (begins_of t) later ≡ 0 →
@@ -144,7 +144,7 @@ pub record Lawful {K : Type 0} (below : K → K → Bool) (x : Index K) (n w : �
   pub sound_each : Each (λ earlier s₁ e s₂. x.Sound (fed below n (e ∷ earlier)) s₂) r
   pub sound : x.Sound (fed below n es) s
   -- over a strict scheme no operation takes longer
-  pub bounded : x.strict ≡ true → Bounded below n limit es
+  pub bounded : x.strict ≡ true → AnswersInTime below n limit es
 
 -- every run is lawful, with a limit by the number of cells and the window
 abbrev pub Law : {K : Type 0} → (K → K → Bool) → Index K → (ℕ → ℕ → ℕ → Kind → ℕ → ℕ) → Type 0

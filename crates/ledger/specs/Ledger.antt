@@ -6,7 +6,7 @@ use Rattle.basis.specs.declared.kind.Kind.TheVariants.{Lookup, Insert, Remove}
 use Rattle.basis.specs.declared.refusal.Refusal.{Refusal}
 use Rattle.basis.specs.declared.refusal.Refusal.TheVariants.{OutOfRange, WrongSizes, MaskRaised, NotAway, Away, AlreadyRunning, NotRunning}
 use Rattle.basis.specs.declared.answer.Answer.{Answer}
-use Rattle.basis.specs.declared.answer.Answer.TheVariants.{No, Yes, Ok, Wait, Full, Refused}
+use Rattle.basis.specs.declared.answer.Answer.TheVariants.{No, Yes, Wait, Full, Refused}
 use Rattle.ledger.specs.Tests.{Test, test, first}
 
 -- what a seat may ask: to take its seat, to give it up, to begin an operation on a target, to run one window of it, to drop it
@@ -39,20 +39,20 @@ pub data Row (K : Type 0) : Type 0 where
 -- the number of cells at making, the keys in the set, and the row of each seat (only those below 16 mean anything)
 pub record Ledger (K : Type 0) : Type 0 where
   pub number : ℕ
-  pub set : List K
+  pub members : List K
   pub row : ℕ → Row K
 
 -- the ledger after an accepted making of n cells: nothing in the set, every seat away
 abbrev pub empty : {K : Type 0} → ℕ → Ledger K
-empty n = record { number = n; set = []; row = λ _. away }
+empty n = record { number = n; members = []; row = λ _. away }
 
 -- the row of seat t becomes r
 abbrev pub seated : {K : Type 0} → Ledger K → ℕ → Row K → Ledger K
-seated a t r = record { number = a.number; set = a.set; row = λ u. cond (u == t) r (a.row u) }
+seated a t r = record { number = a.number; members = a.members; row = λ u. cond (u == t) r (a.row u) }
 
 -- the keys in the set become ks
 abbrev pub holding : {K : Type 0} → Ledger K → List K → Ledger K
-holding a ks = record { number = a.number; set = ks; row = a.row }
+holding a ks = record { number = a.number; members = ks; row = a.row }
 
 -- x and y are the same key: neither is below the other
 abbrev pub same : {K : Type 0} → (K → K → Bool) → K → K → Bool
@@ -78,13 +78,13 @@ replied a l = record { answer = a; after = l }
 
 -- an operation run whole on the set; the seat is idle afterwards
 abbrev pub operated : {K : Type 0} → (K → K → Bool) → Ledger K → ℕ → Kind → K → Reply K
-operated below a t Lookup x = replied (cond (holds below x a.set) Yes No) (seated a t idle)
+operated below a t Lookup x = replied (cond (holds below x a.members) Yes No) (seated a t idle)
 operated below a t Insert x =
-    cond (holds below x a.set) (replied No (seated a t idle))
-    (cond (length a.set == a.number) (replied Full (seated a t idle))
-    (replied Yes (holding (seated a t idle) (x ∷ a.set))))
+    cond (holds below x a.members) (replied No (seated a t idle))
+    (cond (length a.members == a.number) (replied Full (seated a t idle))
+    (replied Yes (holding (seated a t idle) (x ∷ a.members))))
 operated below a t Remove x =
-    cond (holds below x a.set) (replied Yes (holding (seated a t idle) (without below x a.set)))
+    cond (holds below x a.members) (replied Yes (holding (seated a t idle) (without below x a.members)))
     (replied No (seated a t idle))
 
 -- a step that is not told wait; only a running row ever comes here
@@ -99,11 +99,11 @@ stepped below a t nothing = whole below a t (a.row t)
 
 -- a call that no refusal fits
 abbrev pub accepted : {K : Type 0} → (K → K → Bool) → Ledger K → ℕ → What K → Told → Reply K
-accepted below a t join told = replied Ok (seated a t idle)
-accepted below a t leave told = replied Ok (seated a t away)
-accepted below a t (begin k x) told = replied Ok (seated a t (running k x))
+accepted below a t join told = replied Answer.Ok (seated a t idle)
+accepted below a t leave told = replied Answer.Ok (seated a t away)
+accepted below a t (begin k x) told = replied Answer.Ok (seated a t (running k x))
 accepted below a t step told = stepped below a t told
-accepted below a t abandon told = replied Ok (seated a t idle)
+accepted below a t abandon told = replied Answer.Ok (seated a t idle)
 
 abbrev pub joins : {K : Type 0} → What K → Bool
 joins join = true

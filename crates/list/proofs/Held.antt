@@ -8,11 +8,11 @@ use Rattle.basis.specs.declared.kind.Kind.TheVariants.{Lookup, Insert, Remove}
 use Rattle.basis.specs.declared.refusal.Refusal.{Refusal}
 use Rattle.basis.specs.declared.refusal.Refusal.TheVariants.{OutOfRange, WrongSizes, MaskRaised}
 use Rattle.basis.specs.declared.answer.Answer.{Answer}
-use Rattle.basis.specs.declared.answer.Answer.TheVariants.{Ok, Refused}
+use Rattle.basis.specs.declared.answer.Answer.TheVariants.{Refused}
 use Rattle.marks.specs.Meaning.{Table, Order}
 use Rattle.ledger.specs.Tests.{test, first}
 use Rattle.ledger.specs.Ledger.{What, join, leave, begin, step, abandon, Call}
-use Rattle.list_law.specs.Call.{Link, Cell, Row, away, idle, running, State, Memory, Anchor, memory_of, sizes_fit, refusals, row_at, row_or, Effect, Met, bad, passed, present, absent, taken, taken_from, refused, ended, inserted, decided, walked, reach, window, turn, turn_effect, call_effect, effect, rows_after, Did}
+use Rattle.list_law.specs.Call.{Link, Cell, Row, away, idle, running, State, Memory, Anchor, memory_of, fits_anchor, refusals, row_at, row_or, Effect, Met, bad, passed, present, absent, taken, taken_from, refused, ended, inserted, decided, walked, reach, window, turn, turn_effect, call_effect, effect, rows_after, Did}
 use Rattle.list_law.proofs.Lists.{clash, none_some, nth_set_same, nth_set_other, nth_there}
 use Rattle.list_law.proofs.Refusals.{tests_pass}
 use Rattle.list_cells.specs.Views.{cell_of}
@@ -105,7 +105,7 @@ module _ {K M : Type 0} (below : K → K → Bool) (table : M → Table) (strict
   abbrev f : Effect K
   f = effect below table s c
 
-  sizes_stay : sizes_fit s'.cells s'.anchor ≡ sizes_fit s.cells s.anchor
+  sizes_stay : fits_anchor s'.cells s'.anchor ≡ fits_anchor s.cells s.anchor
   sizes_stay =
       let count = ap (λ (x : Anchor). x.count) did.anchor in
       let wide = ap (λ (x : Anchor). x.window) did.anchor in
@@ -149,12 +149,12 @@ module _ {K M : Type 0} (below : K → K → Bool) (table : M → Table) (strict
     pub held : Held s' t
     pub was : row_at s.rows t ≡ away
 
-  pub joined_held : c.what ≡ join → a ≡ Ok → Taken
+  pub joined_held : c.what ≡ join → a ≡ Answer.Ok → Taken
   joined_held what ok = by (first (refusals s c)) refl
     where
       passed_held : first (refusals s c) ≡ None → (r : Row K) → row_at s.rows t ≡ r → Taken
       passed_held e away er =
-          let tests = tests_pass (ltb t 16) (sizes_fit s.cells s.anchor) (eqb (length s.rows) 16) (ltb c.level 7) [] e in
+          let tests = tests_pass (ltb t 16) (fits_anchor s.cells s.anchor) (eqb (length s.rows) 16) (ltb c.level 7) [] e in
           let seat = ltb-true t 16 tests.1 in
           let sixteen = eqb-true (length s.rows) 16 tests.3 in
           let row : f.row ≡ Some idle = ap (λ (x : Effect K). x.row) (inner_is e) ∙ (λ i. (turn_effect below (memory_of s) t s.anchor.window (table s.marks t) (turn t (er i) (what i))).row) in
@@ -175,7 +175,7 @@ module _ {K M : Type 0} (below : K → K → Bool) (table : M → Table) (strict
       by None e = passed_held e (row_at s.rows t) refl
 
   -- a held seat's leave is accepted, unless the mask is raised already
-  pub leave_accepted : c.what ≡ leave → ltb c.level 7 ≡ true → Held s t → a ≡ Ok
+  pub leave_accepted : c.what ≡ leave → ltb c.level 7 ≡ true → Held s t → a ≡ Answer.Ok
   leave_accepted what low h = did.answer ∙ ap (λ (x : Effect K). x.answer) (inner_is none) ∙ by (row_at s.rows t) h.row
     where
       none : first (refusals s c) ≡ None
@@ -184,7 +184,7 @@ module _ {K M : Type 0} (below : K → K → Bool) (table : M → Table) (strict
           let sixteen = eq-eqb (length s.rows) 16 h.rows in
           λ i. first (test (not (seat i)) OutOfRange ∷ test (not (h.cells i)) WrongSizes ∷ test (not (sixteen i)) WrongSizes ∷ test (not (low i)) MaskRaised ∷ [])
 
-      by : (r : Row K) → r ≢ away → (turn_effect below (memory_of s) t s.anchor.window (table s.marks t) (turn t r c.what)).answer ≡ Ok
+      by : (r : Row K) → r ≢ away → (turn_effect below (memory_of s) t s.anchor.window (table s.marks t) (turn t r c.what)).answer ≡ Answer.Ok
       by away d = absurd (d refl)
       by idle d = λ i. (turn_effect below (memory_of s) t s.anchor.window (table s.marks t) (turn t idle (what i))).answer
       by (running k x) d = λ i. (turn_effect below (memory_of s) t s.anchor.window (table s.marks t) (turn t (running k x) (what i))).answer
@@ -198,10 +198,10 @@ module _ {K M : Type 0} {below : K → K → Bool} {table : M → Table} {strict
   pub held_on : (u : ℕ) → (what ≢ leave) ⊎ (u ≢ t) → Held (lent_state i) u → Held (lent_state j) u
   held_on u d h = stays_held below table strict acts (lent_state i) (call_on i what t level) a (lent_state j) called.did long u d h
 
-  pub joined_on : what ≡ join → a ≡ Ok → Held (lent_state j) t × (row_at (lent_state i).rows t ≡ away)
+  pub joined_on : what ≡ join → a ≡ Answer.Ok → Held (lent_state j) t × (row_at (lent_state i).rows t ≡ away)
   joined_on is ok =
       let taken = joined_held below table strict acts (lent_state i) (call_on i what t level) a (lent_state j) called.did long is ok in
       (taken.held, taken.was)
 
-  pub leave_on : what ≡ leave → ltb level 7 ≡ true → Held (lent_state i) t → a ≡ Ok
+  pub leave_on : what ≡ leave → ltb level 7 ≡ true → Held (lent_state i) t → a ≡ Answer.Ok
   leave_on is low h = leave_accepted below table strict acts (lent_state i) (call_on i what t level) a (lent_state j) called.did long is low h

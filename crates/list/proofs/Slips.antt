@@ -3,7 +3,7 @@ use Rattle.std.proofs.Common.{◌≡◌, ℕ, Bool, false, ◌⊎◌, Some, None
 use Rattle.basis.specs.declared.refusal.Refusal.{Refusal}
 use Rattle.basis.specs.declared.refusal.Refusal.TheVariants.{NotAway, Away, AlreadyRunning, NotRunning}
 use Rattle.basis.specs.declared.answer.Answer.{Answer}
-use Rattle.basis.specs.declared.answer.Answer.TheVariants.{Ok, Refused}
+use Rattle.basis.specs.declared.answer.Answer.TheVariants.{Refused}
 use Rattle.marks.specs.Meaning.{Table}
 use Rattle.ledger.specs.Tests.{first}
 use Rattle.ledger.specs.Ledger.{What, join, leave, begin, step, abandon, Call}
@@ -12,7 +12,7 @@ use Rattle.list.specs.Calls.{is_step}
 
 -- ok, or a refusal
 abbrev pub Settled : Answer → Type 0
-Settled a = (a ≡ Ok) ⊎ ((r : Refusal) × (a ≡ Refused r))
+Settled a = (a ≡ Answer.Ok) ⊎ ((r : Refusal) × (a ≡ Refused r))
 
 -- so is what row and call together make of it, unless a step is asked
 settled_turn : {K : Type 0} (below : K → K → Bool) (m : Memory K) (t w : ℕ) (mark : Option ℕ) (what : What K) → is_step what ≡ false → (r : Row K) → Settled (turn_effect below m t w mark (turn t r what)).answer
@@ -36,7 +36,7 @@ module _ {K M : Type 0} (below : K → K → Bool) (table : M → Table) (s : St
   settled_call (Some r) = inr (r, refl)
   settled_call None = settled_turn below (memory_of s) c.seat s.anchor.window (table s.marks c.seat) c.what settles (row_at s.rows c.seat)
 
-  pub no_other : (a : Answer) → a ≡ (effect below table s c).answer → (a ≡ Ok → ⊥) → ((r : Refusal) → a ≡ Refused r → ⊥) → ⊥
+  pub no_other : (a : Answer) → a ≡ (effect below table s c).answer → (a ≡ Answer.Ok → ⊥) → ((r : Refusal) → a ≡ Refused r → ⊥) → ⊥
   unfolding effect
   no_other a is not-ok not-refused = neither (settled_call (first (refusals s c)))
     where

@@ -1,7 +1,7 @@
 // One call: the refusals that look at no row, and then the inner part, under the raised mask.
 ghost use Rattle.std.specs.Prelude.{◌≡◌, ◌&&◌, map, length, Some, None, MatchResult, ◌==◌, nat_lt};
 ghost use Rattle.ledger.specs.Tests.{first};
-ghost use Rattle.list_law.specs.Call.{sizes_fit, refusals};
+ghost use Rattle.list_law.specs.Call.{fits_anchor, refusals};
 ghost use Rattle.list_cells.specs.Views.{cell_of, anchor_of};
 ghost use Rattle.list_window.specs.Rows.{row_of};
 ghost use Rattle.list_window.specs.Turns.{what_of};
@@ -20,7 +20,7 @@ use marks::scheme::Scheme;
 
 // The sizes of what is lent are right: those that making takes, and as many cells as the anchor has it.
 fn sizes_right<K: Key, S: Scheme>(index: &Index<'_, K, S>) -> bool
-    ensures { result ≡ (sizes_fit (map cell_of index.now.cells.now) (anchor_of index.now.anchor.now) && (length (map row_of index.now.rows.now) == 16)) }
+    ensures { result ≡ (fits_anchor (map cell_of index.now.cells.now) (anchor_of index.now.anchor.now) && (length (map row_of index.now.rows.now) == 16)) }
 {
     let count = index.cells.len();
     (count == index.anchor.count as usize) & sizes_fit(count, index.rows.len(), index.anchor.window)

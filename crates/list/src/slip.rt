@@ -22,7 +22,7 @@ pub struct Slip {
 }
 
 // A leave that was refused: why, and the slip, which the task still has.
-pub struct Kept {
+pub struct RefusedLeave {
     pub refusal: Refusal,
     pub slip: Slip,
 }
@@ -88,13 +88,13 @@ impl Slip {
         self,
         index: &mut Index<'_, K, S>,
         mask: &mut Mask,
-    ) -> Result<(), Kept>
+    ) -> Result<(), RefusedLeave>
         ensures called { CalledOn K.Key.below S.Scheme.table S.Scheme.strict S.Scheme.acts index.old (what_of Request.Leave) self.seat mask.old.level (left result) index.new }
         ensures level { mask.new.level ≡ mask.old.level }
         ensures slip { IfErr result (λ kept. kept.slip ≡ self) }
     {
         let Slip { seat } = self;
-        calls::leave(index, mask, seat).map_err(|refusal| Kept {
+        calls::leave(index, mask, seat).map_err(|refusal| RefusedLeave {
             refusal,
             slip: Slip { seat },
         })

@@ -2,7 +2,7 @@
 use Rattle.std.specs.Prelude.{◌≡◌, ℕ, Bool, true, false, cond, ◌&&◌, List, length, ◌==◌}
 use Rattle.basis.specs.declared.refusal.Refusal.TheVariants.{WrongSizes}
 use Rattle.basis.specs.declared.answer.Answer.{Answer}
-use Rattle.basis.specs.declared.answer.Answer.TheVariants.{Ok, Refused}
+use Rattle.basis.specs.declared.answer.Answer.TheVariants.{Refused}
 use Rattle.marks.specs.Meaning.{Table, Order}
 use Rattle.list_driver.specs.declared.driver.Ask as declared
 use Rattle.list_window.specs.Turns.{what_of}
@@ -23,7 +23,7 @@ runnable cells rows window calls answers = calls == answers && makes cells rows 
 -- as it is defined, and the answers are those of a lawful run of exactly these calls; else refused, and nothing is altered
 pub record Ran {K M : Type 0} (below : K → K → Bool) (table : M → Table) (strict : Bool) (acts : Order → M → M → Type 0)
     (n r w : ℕ) (asks : List (Ask K)) (before : List Answer) (s : State K M) (a : Answer) (after : List Answer) (s' : State K M) : Type 0 where
-  pub answer : a ≡ cond (runnable n r w (length asks) (length before)) Ok (Refused WrongSizes)
+  pub answer : a ≡ cond (runnable n r w (length asks) (length before)) Answer.Ok (Refused WrongSizes)
   pub driven : runnable n r w (length asks) (length before) ≡ true →
-      (start : State K M) × Makes below table strict acts s w Ok start × Driven below table strict acts n w start asks after s'
+      (start : State K M) × Makes below table strict acts s w Answer.Ok start × Driven below table strict acts n w start asks after s'
   pub same : runnable n r w (length asks) (length before) ≡ false → (s' ≡ s) × (after ≡ before)

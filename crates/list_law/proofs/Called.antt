@@ -63,7 +63,7 @@ pub record Outcome {K M : Type 0} (below : K → K → Bool) (table : M → Tabl
   pub answer : Answer
   pub memory : Memory K
   pub row : plain.Row K
-  pub set : List K
+  pub members : List K
   pub listed' : List (Entry K)
   pub frees' : List (Entry K)
   pub is_answer : e.answer ≡ answer
@@ -72,11 +72,11 @@ pub record Outcome {K M : Type 0} (below : K → K → Bool) (table : M → Tabl
   pub is_cells : s'.cells ≡ memory.cells
   pub is_anchor : s'.anchor ≡ anchor_after s.anchor memory
   pub is_rows : s'.rows ≡ rows_after s.rows t (Some (row_for row))
-  pub is_reply : reply below a e.call e.told ≡ replied answer (holding (seated a t row) set)
+  pub is_reply : reply below a e.call e.told ≡ replied answer (holding (seated a t row) members)
   pub accepted : is_accepted answer ≡ true
   pub number : length memory.cells ≡ length s.cells
   pub shape : Shape below memory n listed' frees'
-  pub permuted : Permuted set (keys listed')
+  pub permuted : Permuted members (keys listed')
   pub mark : table s'.marks t ≡ None
   pub other_none : (u : ℕ) → u < 16 → u ≢ t → table s.marks u ≡ None → table s'.marks u ≡ None
   pub other_marks : (u : ℕ) → u < 16 → u ≢ t → (x : K) → Stands below x listed (table s.marks u) → Stands below x listed' (table s'.marks u)
@@ -108,7 +108,7 @@ module _ {K M : Type 0} (below : K → K → Bool) (table : M → Table) (strict
   }
     where
       a' : Ledger K
-      a' = holding (seated a t o.row) o.set
+      a' = holding (seated a t o.row) o.members
 
       here : t < length s.rows
       here = omega (arith, v.rows, seat)
@@ -129,7 +129,7 @@ module _ {K M : Type 0} (below : K → K → Bool) (table : M → Table) (strict
         listed = o.listed';
         frees = o.frees';
         shape = subst (λ m. Shape below m n o.listed' o.frees') (sym memory_is) o.shape;
-        set = o.permuted;
+        members = o.permuted;
         own_row = own_row ∙ ap row_for (sym (seated_own a t o.row));
         own_mark = placed_none below o.listed' (a'.row t) (table s'.marks t) o.mark;
         other_ledger = seated_other a t o.row;

@@ -7,7 +7,7 @@ use Rattle.basis.specs.declared.kind.Kind.TheVariants.{Lookup, Insert, Remove}
 use Rattle.basis.specs.declared.refusal.Refusal.{Refusal}
 use Rattle.basis.specs.declared.refusal.Refusal.TheVariants.{OutOfRange, MaskRaised, NotAway, Away, AlreadyRunning, NotRunning, BadLink}
 use Rattle.basis.specs.declared.answer.Answer.{Answer}
-use Rattle.basis.specs.declared.answer.Answer.TheVariants.{No, Yes, Ok, Full, Wait, Refused}
+use Rattle.basis.specs.declared.answer.Answer.TheVariants.{No, Yes, Full, Wait, Refused}
 use Rattle.marks.specs.Meaning.{Table, Order, release, Along}
 use Rattle.keys.specs.Total.{Total}
 use Rattle.ledger.specs.Tests.{first}
@@ -77,33 +77,33 @@ module _ {K M : Type 0} (below : K → K → Bool) (order : Total below) (table 
       called_refused below table strict acts n w a s e s' v (unchanged below table strict acts n w a s e s' v seat did told q eff) q (answer_is below table strict acts n w a s e s' v seat did told (refused m q) eff) d (told_is below table strict acts n w a s e s' v seat did told (refused m q) eff) rep
 
   -- the row changes, and the mark is none
-  module _ (r : plain.Row K) (os : List Order) (eff : effect below table s e.call ≡ record { answer = Ok; told = nothing; memory = m; row = Some (row_for r); orders = os })
-      (rep : reply below a e.call e.told ≡ replied Ok (seated a t r)) (still : steps e.call.what ≡ false) (over : begins_of t e ≡ false → is_running (row_for r) ≡ false) where
+  module _ (r : plain.Row K) (os : List Order) (eff : effect below table s e.call ≡ record { answer = Answer.Ok; told = nothing; memory = m; row = Some (row_for r); orders = os })
+      (rep : reply below a e.call e.told ≡ replied Answer.Ok (seated a t r)) (still : steps e.call.what ≡ false) (over : begins_of t e ≡ false → is_running (row_for r) ≡ false) where
     E : Effect K
-    E = record { answer = Ok; told = nothing; memory = m; row = Some (row_for r); orders = os }
+    E = record { answer = Answer.Ok; told = nothing; memory = m; row = Some (row_for r); orders = os }
 
     change : table s'.marks t ≡ None → ((u : ℕ) → u < 16 → u ≢ t → table s'.marks u ≡ table s.marks u) → Goal
     change mark others = called_outcome below table strict acts n w a s e s' v seat
-        (plain_outcome below table strict acts n w a s e s' v seat did told Ok r os eff refl (λ h. clash (cc)) rep mark others
+        (plain_outcome below table strict acts n w a s e s' v seat did told Answer.Ok r os eff refl (λ h. clash (cc)) rep mark others
         (λ k x what row ok. absurd (both_ways (steps e.call.what) still (ap steps what))) (λ h. absurd (both_ways (steps e.call.what) still h)) (λ _. over))
 
   -- with nothing said to the scheme
-  keeps : (r : plain.Row K) → effect below table s e.call ≡ record { answer = Ok; told = nothing; memory = m; row = Some (row_for r); orders = [] }
-      → reply below a e.call e.told ≡ replied Ok (seated a t r) → steps e.call.what ≡ false → (begins_of t e ≡ false → is_running (row_for r) ≡ false) → table s.marks t ≡ None → Goal
+  keeps : (r : plain.Row K) → effect below table s e.call ≡ record { answer = Answer.Ok; told = nothing; memory = m; row = Some (row_for r); orders = [] }
+      → reply below a e.call e.told ≡ replied Answer.Ok (seated a t r) → steps e.call.what ≡ false → (begins_of t e ≡ false → is_running (row_for r) ≡ false) → table s.marks t ≡ None → Goal
   unfolding E
   keeps r eff rep still over unmarked =
       let same : s'.marks ≡ s.marks = marks_is below table strict acts n w a s e s' v seat did told (E r [] eff rep still over) eff in
       change r [] eff rep still over (ap (λ z. table z t) same ∙ unmarked) (λ u _ _. ap (λ z. table z u) same)
 
   -- with the mark released
-  lets_go : (r : plain.Row K) → effect below table s e.call ≡ record { answer = Ok; told = nothing; memory = m; row = Some (row_for r); orders = release t ∷ [] }
-      → reply below a e.call e.told ≡ replied Ok (seated a t r) → steps e.call.what ≡ false → is_running (row_for r) ≡ false → Goal
+  lets_go : (r : plain.Row K) → effect below table s e.call ≡ record { answer = Answer.Ok; told = nothing; memory = m; row = Some (row_for r); orders = release t ∷ [] }
+      → reply below a e.call e.told ≡ replied Answer.Ok (seated a t r) → steps e.call.what ≡ false → is_running (row_for r) ≡ false → Goal
   unfolding E
   lets_go r eff rep still over =
       let gone = released strict table (Obeys table strict acts) (λ _ _ _ h. h.1) t s.marks s'.marks (marks_is below table strict acts n w a s e s' v seat did told (E r (release t ∷ []) eff rep still (λ _. over)) eff) in
       change r (release t ∷ []) eff rep still (λ _. over) gone.0 gone.1
 
-  begun : (k : Kind) (x : K) → e.call.what ≡ begin k x → e.answer ≡ Ok → begins_of t e ≡ true
+  begun : (k : Kind) (x : K) → e.call.what ≡ begin k x → e.answer ≡ Answer.Ok → begins_of t e ≡ true
   begun k x ew ea = rw (ew, eq-eqb t t refl, ea)
 
   called_row : (r : plain.Row K) → a.row t ≡ r → (what : What K) → e.call.what ≡ what → Goal
@@ -116,7 +116,7 @@ module _ {K M : Type 0} (below : K → K → Bool) (order : Total below) (table 
   called_row plain.idle er leave ew = lets_go plain.away (effect_is plain.idle er leave ew) (reply_is plain.idle er leave ew) (ap steps ew) refl
   called_row plain.idle er (begin k x) ew =
       keeps (plain.running k x) (effect_is plain.idle er (begin k x) ew) (reply_is plain.idle er (begin k x) ew) (ap steps ew)
-      (λ h. absurd (both_ways (begins_of t e) h (begun k x ew (answer_is below table strict acts n w a s e s' v seat did told (record { answer = Ok; told = nothing; memory = m; row = Some (running k x); orders = [] }) (effect_is plain.idle er (begin k x) ew)))))
+      (λ h. absurd (both_ways (begins_of t e) h (begun k x ew (answer_is below table strict acts n w a s e s' v seat did told (record { answer = Answer.Ok; told = nothing; memory = m; row = Some (running k x); orders = [] }) (effect_is plain.idle er (begin k x) ew)))))
       (subst (λ r. Placed below v.listed r (table s.marks t)) er (v.placed t seat))
   called_row plain.idle er step ew = refuse NotRunning not_running_apart (effect_is plain.idle er step ew) (reply_is plain.idle er step ew)
   called_row plain.idle er abandon ew = refuse NotRunning not_running_apart (effect_is plain.idle er abandon ew) (reply_is plain.idle er abandon ew)
@@ -162,21 +162,21 @@ module _ {K : Type 0} (below : K → K → Bool) (q : Refusal) (d₄ : NotAway �
   window_inner win mark k x = decided_inner k x (walked below m.cells m.head x (pred (reach t win mark)) mark)
 
   turned_inner : (win : ℕ) (mark : Option ℕ) (r : Row K) (what : What K) → (turn_effect below m t win mark (turn t r what)).answer ≢ Refused q
-  turned_inner win mark away join = fine Ok refl
+  turned_inner win mark away join = fine Answer.Ok refl
   turned_inner win mark away leave = refused_apart Away q d₅
   turned_inner win mark away (begin k x) = refused_apart Away q d₅
   turned_inner win mark away step = refused_apart Away q d₅
   turned_inner win mark away abandon = refused_apart Away q d₅
   turned_inner win mark idle join = refused_apart NotAway q d₄
-  turned_inner win mark idle leave = fine Ok refl
-  turned_inner win mark idle (begin k x) = fine Ok refl
+  turned_inner win mark idle leave = fine Answer.Ok refl
+  turned_inner win mark idle (begin k x) = fine Answer.Ok refl
   turned_inner win mark idle step = refused_apart NotRunning q d₇
   turned_inner win mark idle abandon = refused_apart NotRunning q d₇
   turned_inner win mark (running k x) join = refused_apart NotAway q d₄
-  turned_inner win mark (running k x) leave = fine Ok refl
+  turned_inner win mark (running k x) leave = fine Answer.Ok refl
   turned_inner win mark (running k x) (begin k' x') = refused_apart AlreadyRunning q d₆
   turned_inner win mark (running k x) step = window_inner win mark k x
-  turned_inner win mark (running k x) abandon = fine Ok refl
+  turned_inner win mark (running k x) abandon = fine Answer.Ok refl
 
 module _ {K M : Type 0} (below : K → K → Bool) (table : M → Table) (s : State K M) (c : Call K) (none : first (refusals s c) ≡ None) where
   inner_is : effect below table s c ≡ turn_effect below (memory_of s) c.seat s.anchor.window (table s.marks c.seat) (turn c.seat (row_at s.rows c.seat) c.what)

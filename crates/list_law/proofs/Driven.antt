@@ -7,7 +7,7 @@ use Rattle.ledger.specs.Ledger.{Call}
 use Rattle.list_law.specs.Call.{State, Did}
 use Rattle.list_law.specs.Performed.{Ask, called}
 use Rattle.list_law.specs.Continued.{happened, Begins, Continues}
-use Rattle.list_law.specs.Driven.{asked, InTurn, Driven}
+use Rattle.list_law.specs.Driven.{call_asked, InTurn, Driven}
 
 module _ {K M : Type 0} (below : K → K → Bool) (table : M → Table) (strict : Bool) (acts : Order → M → M → Type 0) where
   -- one call more, after those made
@@ -22,7 +22,7 @@ module _ {K M : Type 0} (below : K → K → Bool) (table : M → Table) (strict
   driven_none s b = record { in_turn = refl; events = []; calls = refl; answered = refl; run = b.0; lawful = b.1 }
 
   -- one call more; it is the call of what a seat asks, on the index's own cells and rows
-  pub driven_more : (start : State K M) (asks : List (Ask K)) (answers : List Answer) (s : State K M) (k : Ask K) (c : Call K) (a : Answer) (s' : State K M) → c ≡ asked n k → c ≡ called s k
+  pub driven_more : (start : State K M) (asks : List (Ask K)) (answers : List Answer) (s : State K M) (k : Ask K) (c : Call K) (a : Answer) (s' : State K M) → c ≡ call_asked n k → c ≡ called s k
       → Driven below table strict acts n w start asks answers s → Did below table strict acts s c a s' → Continues below table strict acts s c a s'
       → Driven below table strict acts n w start (asks ++ k ∷ []) (answers ++ a ∷ []) s'
   driven_more start asks answers s k c a s' is own d did goes =
@@ -30,7 +30,7 @@ module _ {K M : Type 0} (below : K → K → Bool) (table : M → Table) (strict
       record {
         in_turn = in_turn_more below table strict acts start asks answers s k a s' d.in_turn (subst (λ (x : Call K). Did below table strict acts s x a s') own did);
         events = happened below table s c a ∷ d.events;
-        calls = (λ i. d.calls i ++ is i ∷ []) ∙ sym (map_push (asked n) asks k);
+        calls = (λ i. d.calls i ++ is i ∷ []) ∙ sym (map_push (call_asked n) asks k);
         answered = ap (λ l. l ++ a ∷ []) d.answered;
         run = more.0;
         lawful = more.1;

@@ -35,7 +35,7 @@ pub record Inv {K M : Type 0} (below : K → K → Bool) (table : M → Table) (
   pub listed : List (Entry K)
   pub frees : List (Entry K)
   pub shape : Shape below (memory_of s) n listed frees
-  pub set : Permuted a.set (keys listed)
+  pub members : Permuted a.members (keys listed)
   pub alike : (u : ℕ) → u < 16 → row_at s.rows u ≡ row_for (a.row u)
   pub placed : (u : ℕ) → u < 16 → Placed below listed (a.row u) (table s.marks u)
 
@@ -48,7 +48,7 @@ sound_of below table n w a s v = record {
   from_free = v.shape.from_free;
   once = λ p h. v.shape.once p (omega (arith, h, v.number));
   rises = v.shape.rises;
-  set = v.set;
+  members = v.members;
   few = omega (arith, v.shape.total, v.number);
 }
 
@@ -62,10 +62,10 @@ module _ {K : Type 0} (a : Ledger K) (t : ℕ) (r : plain.Row K) where
   seated_other u h = ap (λ b. cond b r (a.row u)) (ne_eqb u t h)
 
 module _ {K : Type 0} (rs : List (Row K)) (t : ℕ) (r : Row K) where
-  pub row_own : t < length rs → row_at (set rs t r) t ≡ r
+  pub row_own : t < length rs → row_at (members rs t r) t ≡ r
   row_own h = ap row_or (nth_set_same rs t r (nth_there rs t h).1)
 
-  pub row_other : (u : ℕ) → u ≢ t → row_at (set rs t r) u ≡ row_at rs u
+  pub row_other : (u : ℕ) → u ≢ t → row_at (members rs t r) u ≡ row_at rs u
   row_other u h = ap row_or (nth_set_other rs t u r h)
 
 abbrev pub is_running : {K : Type 0} → Row K → Bool
@@ -103,7 +103,7 @@ pub record After {K M : Type 0} (below : K → K → Bool) (table : M → Table)
   pub listed : List (Entry K)
   pub frees : List (Entry K)
   pub shape : Shape below (memory_of s') n listed frees
-  pub set : Permuted a'.set (keys listed)
+  pub members : Permuted a'.members (keys listed)
   pub own_row : row_at s'.rows t ≡ row_for (a'.row t)
   pub own_mark : Placed below listed (a'.row t) (table s'.marks t)
   pub other_ledger : (u : ℕ) → u ≢ t → a'.row u ≡ a.row u
@@ -135,7 +135,7 @@ module _ {K M : Type 0} (below : K → K → Bool) (table : M → Table) (n w t 
     listed = f.listed;
     frees = f.frees;
     shape = f.shape;
-    set = f.set;
+    members = f.members;
     alike = λ u l. alike_at u l (cases_eq u t);
     placed = λ u l. placed_at u l (cases_eq u t);
   }

@@ -40,4 +40,4 @@ module _ {K M : Type 0} (below : K → K → Bool) (order : Total below) (table 
     where
       At : ℕ → Type 0
       At m =
-          Waits below s.cells s.anchor.head (fed below n es).set (table s.marks e.call.seat) (table s'.marks e.call.seat) x m e.answer
+          Waits below s.cells s.anchor.head (fed below n es).members (table s.marks e.call.seat) (table s'.marks e.call.seat) x m e.answer

@@ -17,7 +17,6 @@ pub mod Lawful
 pub mod Proper
 pub mod Existence
 pub mod Performed
-pub mod Worked
 pub mod Continued
 pub mod Made
 pub mod Driven

@@ -2,7 +2,8 @@
 use Rattle.std.proofs.Common.{◌≡◌, ℕ, zero, suc, ◌+◌, ◌<◌, ◌≤◌, Bool, true, false, ◌&&◌, eqb, leb, List, length, None, sym, refl, ap, ◌∙◌, ⊎_elim, arith}
 use Rattle.std.proofs.lemmas.Bool.{and_parts, leb-true, eqb-true, cases_eq, both_ways, cond-true, cond-false}
 use Rattle.basis.specs.declared.refusal.Refusal.TheVariants.{WrongSizes}
-use Rattle.basis.specs.declared.answer.Answer.TheVariants.{Ok, Refused}
+use Rattle.basis.specs.declared.answer.Answer.TheVariants.{Refused}
+use Rattle.basis.specs.declared.answer.Answer.{Answer}
 use Rattle.keys.specs.Total.{Total}
 use Rattle.marks.specs.Meaning.{Table, Order, Along}
 use Rattle.list_law.specs.Call.{Cell, State, Obeys}
@@ -61,7 +62,7 @@ module _ {K M : Type 0} (below : K → K → Bool) (order : Total below) (table 
   }
 
   -- sizes that fit are accepted
-  pub makes_accepted : (s : State K M) (w : ℕ) (s' : State K M) → makes (length s.cells) (length s.rows) w ≡ true → s' ≡ made_of s.cells w s'.marks → Along (Obeys table strict acts) releases s.marks s'.marks → Makes below table strict acts s w Ok s'
+  pub makes_accepted : (s : State K M) (w : ℕ) (s' : State K M) → makes (length s.cells) (length s.rows) w ≡ true → s' ≡ made_of s.cells w s'.marks → Along (Obeys table strict acts) releases s.marks s'.marks → Makes below table strict acts s w Answer.Ok s'
   makes_accepted s w s' e is along = record {
     answer = sym (cond-true _ _ _ e);
     made = λ _. is;

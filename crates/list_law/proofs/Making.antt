@@ -82,7 +82,7 @@ inv_made {K} {M} below table n w s d = record {
     total = omega (arith, length_entries 0 d.given, d.number);
     rises = tt;
   });
-  set = none;
+  members = none;
   alike = λ u l. ap (λ rs. row_at rs u) d.rows ∙ all_away 16 u;
   placed = λ u l. d.marks u l;
 }

@@ -32,7 +32,7 @@ module _ {K M : Type 0} (below : K → K → Bool) (order : Total below) (table 
   width = omega (arith, wide)
 
   pub rule_of : (listed : List (Entry K)) (start : Started below s.cells s.anchor.head x listed (pred (reach e.call.seat s.anchor.window (table s.marks e.call.seat))) (table s.marks e.call.seat))
-      → Rules below order s.cells s.anchor.head x listed (pred (reach e.call.seat s.anchor.window (table s.marks e.call.seat))) (table s.marks e.call.seat) start e.answer (table s'.marks e.call.seat) a.set
+      → Rules below order s.cells s.anchor.head x listed (pred (reach e.call.seat s.anchor.window (table s.marks e.call.seat))) (table s.marks e.call.seat) start e.answer (table s'.marks e.call.seat) a.members
       → Rule below table a s e s'
   rule_of listed start r k' x' what row' ok =
       subst (λ z. At z (reach e.call.seat s.anchor.window (table s.marks e.call.seat))) (running_target k k' x x' (sym row ∙ row'))
@@ -40,7 +40,7 @@ module _ {K M : Type 0} (below : K → K → Bool) (order : Total below) (table 
     where
       At : K → ℕ → Type 0
       At z m =
-          Waits below s.cells s.anchor.head a.set (table s.marks e.call.seat) (table s'.marks e.call.seat) z m e.answer
+          Waits below s.cells s.anchor.head a.members (table s.marks e.call.seat) (table s'.marks e.call.seat) z m e.answer
 
 module _ {K M : Type 0} (below : K → K → Bool) (table : M → Table) (strict : Bool) (acts : Order → M → M → Type 0) (n w : ℕ) (a : Ledger K) (s : State K M) (e : Event K) (s' : State K M)
     (v : Inv below table n w a s) (seat : e.call.seat < 16) (did : Did below table strict acts s e.call e.answer s') (told : e.told ≡ (effect below table s e.call).told) where
@@ -86,7 +86,7 @@ module _ {K M : Type 0} (below : K → K → Bool) (table : M → Table) (strict
     answer = ans;
     memory = memory_of s;
     row = r;
-    set = a.set;
+    members = a.members;
     listed' = v.listed;
     frees' = v.frees;
     is_answer = answer_is E is;
@@ -99,7 +99,7 @@ module _ {K M : Type 0} (below : K → K → Bool) (table : M → Table) (strict
     accepted = ok;
     number = refl;
     shape = v.shape;
-    permuted = v.set;
+    permuted = v.members;
     mark = mark;
     other_none = λ u l d h. others u l d ∙ h;
     other_marks = λ u l d x h. stands_kept below x v.listed (table s.marks u) (table s'.marks u) (inl (others u l d)) h;
@@ -159,7 +159,7 @@ module _ {K M : Type 0} (below : K → K → Bool) (table : M → Table) (strict
           listed = v.listed;
           frees = v.frees;
           shape = subst (λ m. Shape below m n v.listed v.frees) (sym memory_is) v.shape;
-          set = v.set;
+          members = v.members;
           own_row = same_row e.call.seat ∙ v.alike e.call.seat seat;
           own_mark = subst (λ r. Placed below v.listed r (table s'.marks e.call.seat)) (sym row) (subst (Stands below x v.listed) (sym moved_marks.0) (y, there, lo));
           other_ledger = λ u d. refl;

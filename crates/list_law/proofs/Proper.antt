@@ -10,7 +10,7 @@ use Rattle.basis.specs.declared.answer.Answer.TheVariants.{Yes}
 use Rattle.marks.specs.Meaning.{Table, Order, Along}
 use Rattle.ledger.specs.Tests.{first}
 use Rattle.ledger.specs.Ledger.{Call, What, join, leave, begin, step, abandon}
-use Rattle.list_law.specs.Call.{Link, Cell, Row, away, idle, running, State, Memory, memory_of, row_at, Met, bad, passed, present, absent, judged, met, look, followed, walk, resumed, walked, Effect, effect, refused, ended, inserted, taken, taken_from, decided, window, turn, turn_effect, refusals, call_effect, sizes_fit, reach, Obeys}
+use Rattle.list_law.specs.Call.{Link, Cell, Row, away, idle, running, State, Memory, memory_of, row_at, Met, bad, passed, present, absent, judged, met, look, followed, walk, resumed, walked, Effect, effect, refused, ended, inserted, taken, taken_from, decided, window, turn, turn_effect, refusals, call_effect, fits_anchor, reach, Obeys}
 use Rattle.list_law.specs.Existence.{Proper, Able}
 use Rattle.list_law.proofs.Lists.{nth_lt}
 use Rattle.list_law.proofs.Refusals.{tests_pass}
@@ -113,7 +113,7 @@ module _ {K M : Type 0} (below : K → K → Bool) (table : M → Table) (s : St
   judged_proper : (o : Option Refusal) → first (refusals s c) ≡ o → AllProper (call_effect below table s c o).orders
   judged_proper (Some r) h = tt
   judged_proper None h =
-      let t = tests_pass (ltb c.seat 16) (sizes_fit s.cells s.anchor) (eqb (length s.rows) 16) (ltb c.level 7) [] h in
+      let t = tests_pass (ltb c.seat 16) (fits_anchor s.cells s.anchor) (eqb (length s.rows) 16) (ltb c.level 7) [] h in
       let l : ℕ = length s.cells in
       let w₂ = and_parts (leb 1 l && leb l 1008 && eqb l s.anchor.count && leb 1 s.anchor.window) (leb s.anchor.window 64) t.2 in
       let w₁ = and_parts (leb 1 l && leb l 1008 && eqb l s.anchor.count) (leb 1 s.anchor.window) w₂.0 in

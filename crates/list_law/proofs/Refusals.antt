@@ -7,7 +7,7 @@ use Rattle.marks.specs.Meaning.{Table}
 use Rattle.ledger.specs.Tests.{Test, test, first}
 use Rattle.ledger.specs.Ledger as plain
 use Rattle.ledger.specs.Ledger.{Ledger, Call, What, fitting, joins, begins, steps, abandons}
-use Rattle.list_law.specs.Call.{State, sizes_fit, refusals}
+use Rattle.list_law.specs.Call.{State, fits_anchor, refusals}
 use Rattle.list_law.proofs.Lists.{clash, none_some, some_inj}
 use Rattle.list_law.proofs.Invariant.{Inv}
 
@@ -51,11 +51,11 @@ and_true false b h = refl
 
 module _ {K M : Type 0} (below : K → K → Bool) (table : M → Table) (n w : ℕ) (a : Ledger K) (s : State K M) (v : Inv below table n w a s) (c : Call K) (lent : State K M)
     (anchor : lent.anchor ≡ s.anchor) (cells : c.cells ≡ length lent.cells) (rows : c.rows ≡ length lent.rows) where
-  sizes : fitting a c ≡ (sizes_fit lent.cells lent.anchor && eqb (length lent.rows) 16)
+  sizes : fitting a c ≡ (fits_anchor lent.cells lent.anchor && eqb (length lent.rows) 16)
   sizes =
       let l : ℕ = length lent.cells in
       let front : Bool = leb 1 l && leb l 1008 && eqb l n in
-      let ours' : sizes_fit lent.cells lent.anchor ≡ front =
+      let ours' : fits_anchor lent.cells lent.anchor ≡ front =
       ap (λ an. leb 1 l && leb l 1008 && eqb l an.count && leb 1 an.window && leb an.window 64) anchor
       ∙ ap (λ k. leb 1 l && leb l 1008 && eqb l k && leb 1 s.anchor.window && leb s.anchor.window 64) v.count
       ∙ ap (λ k. front && leb 1 k && leb k 64) v.window
@@ -65,13 +65,13 @@ module _ {K M : Type 0} (below : K → K → Bool) (table : M → Table) (n w : 
       ∙ ap (λ k. front && eqb k 16) rows
       ∙ ap (λ b. b && eqb (length lent.rows) 16) (sym ours')
 
-  same_tests : first (plain.refusals a c (a.row c.seat)) ≡ theirs (ltb c.seat 16) (sizes_fit lent.cells lent.anchor) (eqb (length lent.rows) 16) (ltb c.level 7) (row_tests c.what (a.row c.seat))
+  same_tests : first (plain.refusals a c (a.row c.seat)) ≡ theirs (ltb c.seat 16) (fits_anchor lent.cells lent.anchor) (eqb (length lent.rows) 16) (ltb c.level 7) (row_tests c.what (a.row c.seat))
   same_tests = ap (λ b. first (test (not (ltb c.seat 16)) OutOfRange ∷ test (not b) WrongSizes ∷ test (not (ltb c.level 7)) MaskRaised ∷ row_tests c.what (a.row c.seat))) sizes
 
   -- a refusal of the index is the ledger's
   pub stopped : (r : Refusal) → first (refusals lent c) ≡ Some r → (first (plain.refusals a c (a.row c.seat)) ≡ Some r) × (r ≢ BadLink)
   stopped r h =
-      let t = tests_stop (ltb c.seat 16) (sizes_fit lent.cells lent.anchor) (eqb (length lent.rows) 16) (ltb c.level 7) (row_tests c.what (a.row c.seat)) r h in
+      let t = tests_stop (ltb c.seat 16) (fits_anchor lent.cells lent.anchor) (eqb (length lent.rows) 16) (ltb c.level 7) (row_tests c.what (a.row c.seat)) r h in
       (same_tests ∙ t.0, t.1)
 
   -- where there is none, the ledger looks at the row, and what was lent has the right sizes
@@ -83,7 +83,7 @@ module _ {K M : Type 0} (below : K → K → Bool) (table : M → Table) (n w : 
 
   pub passed : first (refusals lent c) ≡ None → Passed
   passed h =
-      let t = tests_pass (ltb c.seat 16) (sizes_fit lent.cells lent.anchor) (eqb (length lent.rows) 16) (ltb c.level 7) (row_tests c.what (a.row c.seat)) h in
+      let t = tests_pass (ltb c.seat 16) (fits_anchor lent.cells lent.anchor) (eqb (length lent.rows) 16) (ltb c.level 7) (row_tests c.what (a.row c.seat)) h in
       let l : ℕ = length lent.cells in
       let an = lent.anchor in
       let w₂ = and_parts (leb 1 l && leb l 1008 && eqb l an.count && leb 1 an.window) (leb an.window 64) t.2 in

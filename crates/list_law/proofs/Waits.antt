@@ -19,9 +19,9 @@ module _ {K : Type 0} (below : K → K → Bool) (order : Total below) (cs : Lis
   pub ahead : ℕ
   ahead = between below (beyond below cs mark) x (keys s.rest)
 
-  pub ahead_by_set : (set : List K) → Permuted set (keys listed) → between below (beyond below cs mark) x set ≡ ahead
+  pub ahead_by_set : (members : List K) → Permuted members (keys listed) → between below (beyond below cs mark) x members ≡ ahead
   unfolding ahead
-  ahead_by_set set same =
+  ahead_by_set members same =
       between_permuted below x (beyond below cs mark) same
       ∙ ap (between below (beyond below cs mark) x) (ap keys s.is ∙ keys_append s.done s.rest)
       ∙ between_append below (beyond below cs mark) x (keys s.done) (keys s.rest)
@@ -82,23 +82,23 @@ module _ {K : Type 0} (below : K → K → Bool) (order : Total below) (cs : Lis
 
   -- the rule for waits, of an answer and of the mark afterwards
   abbrev pub Rules : Answer → Option ℕ → List K → Type 0
-  Rules a mark' set =
+  Rules a mark' members =
       ((a ≡ Wait) ↔ ((p : ℕ) × Meets below cs (first_link cs head mark) x (suc room) p))
       × ((p : ℕ) → Meets below cs (first_link cs head mark) x (suc room) p → mark' ≡ Some p)
-      × ((a ≡ Wait) ↔ (suc room ≤ between below (beyond below cs mark) x set))
+      × ((a ≡ Wait) ↔ (suc room ≤ between below (beyond below cs mark) x members))
 
-  pub rules_wait : (a : Answer) (mark' : Option ℕ) (set : List K) → Permuted set (keys listed) → a ≡ Wait
+  pub rules_wait : (a : Answer) (mark' : Option ℕ) (members : List K) → Permuted members (keys listed) → a ≡ Wait
       → (fs : List (Entry K)) (p : ℕ) (y : K) (bs : List (Entry K)) → s.rest ≡ fs ++ entry p y ∷ bs → length fs ≡ room → Every (λ z. below z x) (keys fs) → below y x ≡ true
-      → mark' ≡ Some p → Rules a mark' set
-  rules_wait a mark' set same w fs p y bs is long lo hi k = (
+      → mark' ≡ Some p → Rules a mark' members
+  rules_wait a mark' members same w fs p y bs is long lo hi k = (
     ((λ _. (p, meets_there fs p y bs is long lo hi)), (λ _. w)),
     (λ q m. k ∙ ap Some (meets_only q m fs p y bs is long)),
-    ((λ _. omega (arith, ahead_by_set set same, ahead_waits fs p y bs is long lo hi)), (λ _. w)),
+    ((λ _. omega (arith, ahead_by_set members same, ahead_waits fs p y bs is long lo hi)), (λ _. w)),
   )
 
-  pub rules_else : (a : Answer) (mark' : Option ℕ) (set : List K) → Permuted set (keys listed) → a ≢ Wait → ahead ≤ room → Rules a mark' set
-  rules_else a mark' set same w few = (
+  pub rules_else : (a : Answer) (mark' : Option ℕ) (members : List K) → Permuted members (keys listed) → a ≢ Wait → ahead ≤ room → Rules a mark' members
+  rules_else a mark' members same w few = (
     ((λ e. absurd (w e)), (λ m. absurd (omega (arith, ahead_meets m.0 m.1)))),
     (λ q m. absurd (omega (arith, ahead_meets q m))),
-    ((λ e. absurd (w e)), (λ h. absurd (omega (arith, ahead_by_set set same)))),
+    ((λ e. absurd (w e)), (λ h. absurd (omega (arith, ahead_by_set members same)))),
   )

@@ -92,7 +92,7 @@ module _ {K M : Type 0} (below : K → K → Bool) (order : Total below) (table 
       (standing below x v.listed mark (subst (λ r. Placed below v.listed r mark) row (v.placed t seat)))
 
   abbrev Ruled : Type 0
-  Ruled = Rules below order s.cells s.anchor.head x v.listed room mark start e.answer (table s'.marks t) a.set
+  Ruled = Rules below order s.cells s.anchor.head x v.listed room mark start e.answer (table s'.marks t) a.members
 
   rule : Ruled → Rule below table a s e s'
   rule = rule_of below order table a s e s' k x wide row v.listed start
@@ -108,7 +108,7 @@ module _ {K M : Type 0} (below : K → K → Bool) (order : Total below) (table 
   called_ended ans is ok fin rep few =
       concludes
       (plain_outcome below table strict acts n w a s e s' v seat did told ans plain.idle (release t ∷ []) is ok (λ h. both_ways false refl (sym (ap is_final h) ∙ fin)) (rep (told_as E is)) gone.0 gone.1
-      (rule (rules_else below order s.cells s.anchor.head x v.listed room mark start e.answer (table s'.marks t) a.set v.set not_wait few)) (λ _. fin) (λ _ _. refl))
+      (rule (rules_else below order s.cells s.anchor.head x v.listed room mark start e.answer (table s'.marks t) a.members v.members not_wait few)) (λ _. fin) (λ _ _. refl))
     where
       E : Effect K
       E = ended t ans m
@@ -143,8 +143,8 @@ module _ {K M : Type 0} (below : K → K → Bool) (order : Total below) (table 
     few_ahead : ahead below order s.cells s.anchor.head x v.listed room mark start ≤ room
     few_ahead = ahead_finds below order s.cells s.anchor.head x v.listed room mark start fs p y bs is few lo ge le
 
-    held_there : holds below x a.set ≡ true
-    held_there = holds_permuted below x v.set ∙ ap (holds below x) (listed_keys fs lo (entry p y ∷ bs) is) ∙ holds_present below order x (keys (front fs lo)) (front_low fs lo) y (keys bs) le ge
+    held_there : holds below x a.members ≡ true
+    held_there = holds_permuted below x v.members ∙ ap (holds below x) (listed_keys fs lo (entry p y ∷ bs) is) ∙ holds_present below order x (keys (front fs lo)) (front_low fs lo) y (keys bs) le ge
 
     up : Every (below y) (keys bs)
     up = rises_above below (keys (front fs lo)) y (keys bs) (subst (Rises below) (listed_keys fs lo (entry p y ∷ bs) is) v.shape.rises)
@@ -154,7 +154,7 @@ module _ {K M : Type 0} (below : K → K → Bool) (order : Total below) (table 
       answer = Yes;
       memory = removed lead p l m;
       row = plain.idle;
-      set = without below x a.set;
+      members = without below x a.members;
       listed' = front fs lo ++ bs;
       frees' = entry p y ∷ v.frees;
       is_answer = answer;
@@ -164,16 +164,16 @@ module _ {K M : Type 0} (below : K → K → Bool) (order : Total below) (table 
       is_anchor = anchor_as E eff;
       is_rows = rows_as E eff;
       is_reply = whole_reply (told_as E eff) Remove ek
-          ∙ ap (λ b. cond b (replied Yes (holding (seated a t plain.idle) (without below x a.set))) (replied No (seated a t plain.idle))) held_there;
+          ∙ ap (λ b. cond b (replied Yes (holding (seated a t plain.idle) (without below x a.members))) (replied No (seated a t plain.idle))) held_there;
       accepted = refl;
       number = length_removed lead p l m;
       shape = shape_removed below m n v.listed v.frees v.shape (front fs lo) p y bs lead l (split fs lo (entry p y ∷ bs) is) led at on;
-      permuted = subst (Permuted (without below x a.set)) left_keys (without_permuted below x v.set);
+      permuted = subst (Permuted (without below x a.members)) left_keys (without_permuted below x v.members);
       mark = gone.0;
       other_none = λ u l' d h. none_stays u h (gone.1 u l' d);
       other_marks = λ u l' d z h. stands_struck below z (entry p y) (front fs lo) bs (table s.marks u) (table s'.marks u) (gone.1 u l' d)
           (subst (λ r. Stands below z r (table s.marks u)) (split fs lo (entry p y ∷ bs) is) h);
-      rule = rule (rules_else below order s.cells s.anchor.head x v.listed room mark start e.answer (table s'.marks t) a.set v.set not_wait few_ahead);
+      rule = rule (rules_else below order s.cells s.anchor.head x v.listed room mark start e.answer (table s'.marks t) a.members v.members not_wait few_ahead);
       final = λ _. refl;
       over = λ _ _. refl;
       held = λ _ u c d ch h. absurd (both_ways (changed_beside u a e) ch (changed answer (ap (λ z. alters (plain.running z x)) ek) u d));
@@ -201,7 +201,7 @@ module _ {K M : Type 0} (below : K → K → Bool) (order : Total below) (table 
     called_present : (k' : Kind) → k ≡ k' → effect below table s e.call ≡ decided k' x t m (present lead p l) → Goal
     called_present Lookup ek eff = called_ended Yes eff refl refl (λ tl. whole_reply tl Lookup ek ∙ ap (λ b. replied (cond b Yes No) (seated a t plain.idle)) held_there) few_ahead
     called_present Insert ek eff = called_ended No eff refl refl
-        (λ tl. whole_reply tl Insert ek ∙ ap (λ b. cond b (replied No (seated a t plain.idle)) (cond (eqb (length a.set) a.number) (replied Full (seated a t plain.idle)) (replied Yes (holding (seated a t plain.idle) (x ∷ a.set))))) held_there) few_ahead
+        (λ tl. whole_reply tl Insert ek ∙ ap (λ b. cond b (replied No (seated a t plain.idle)) (cond (eqb (length a.members) a.number) (replied Full (seated a t plain.idle)) (replied Yes (holding (seated a t plain.idle) (x ∷ a.members))))) held_there) few_ahead
     called_present Remove ek eff = called_removed ek eff
 
   -- the target is missing
@@ -210,22 +210,22 @@ module _ {K M : Type 0} (below : K → K → Bool) (order : Total below) (table 
     none_ahead : ahead below order s.cells s.anchor.head x v.listed room mark start ≤ room
     none_ahead = ahead_misses below order s.cells s.anchor.head x v.listed room mark start fs bs is few lo hi
 
-    not_there : holds below x a.set ≡ false
-    not_there = holds_permuted below x v.set ∙ ap (holds below x) (listed_keys fs lo bs is) ∙ holds_absent below order x (keys (front fs lo)) (front_low fs lo) (keys bs) hi
+    not_there : holds below x a.members ≡ false
+    not_there = holds_permuted below x v.members ∙ ap (holds below x) (listed_keys fs lo bs is) ∙ holds_absent below order x (keys (front fs lo)) (front_low fs lo) (keys bs) hi
 
-    size : length a.set ≡ length v.listed
-    size = length_permuted v.set ∙ length_keys v.listed
+    size : length a.members ≡ length v.listed
+    size = length_permuted v.members ∙ length_keys v.listed
 
-    insert_reply : e.told ≡ nothing → k ≡ Insert → (b : Bool) → eqb (length a.set) a.number ≡ b
-        → reply below a e.call e.told ≡ cond b (replied Full (seated a t plain.idle)) (replied Yes (holding (seated a t plain.idle) (x ∷ a.set)))
+    insert_reply : e.told ≡ nothing → k ≡ Insert → (b : Bool) → eqb (length a.members) a.number ≡ b
+        → reply below a e.call e.told ≡ cond b (replied Full (seated a t plain.idle)) (replied Yes (holding (seated a t plain.idle) (x ∷ a.members)))
     insert_reply tl ek b full = whole_reply tl Insert ek
-        ∙ ap (λ c. cond c (replied No (seated a t plain.idle)) (cond (eqb (length a.set) a.number) (replied Full (seated a t plain.idle)) (replied Yes (holding (seated a t plain.idle) (x ∷ a.set))))) not_there
-        ∙ ap (λ c. cond c (replied Full (seated a t plain.idle)) (replied Yes (holding (seated a t plain.idle) (x ∷ a.set)))) full
+        ∙ ap (λ c. cond c (replied No (seated a t plain.idle)) (cond (eqb (length a.members) a.number) (replied Full (seated a t plain.idle)) (replied Yes (holding (seated a t plain.idle) (x ∷ a.members))))) not_there
+        ∙ ap (λ c. cond c (replied Full (seated a t plain.idle)) (replied Yes (holding (seated a t plain.idle) (x ∷ a.members)))) full
 
     -- no cell is free
     called_full : k ≡ Insert → v.frees ≡ [] → effect below table s e.call ≡ ended t Full m → Goal
     called_full ek none eff = called_ended Full eff refl refl
-        (λ tl. insert_reply tl ek true (eq-eqb (length a.set) a.number (omega (arith, size, v.shape.total, ap length none, v.number)))) none_ahead
+        (λ tl. insert_reply tl ek true (eq-eqb (length a.members) a.number (omega (arith, size, v.shape.total, ap length none, v.number)))) none_ahead
 
     -- the front free cell, at place q
     called_inserted : k ≡ Insert → (q : ℕ) (z : K) (f : Link) (frees' : List (Entry K)) → v.frees ≡ entry q z ∷ frees' → Leads s.cells false f frees' None → slice_get s.cells q ≡ Some (cell z f false)
@@ -234,7 +234,7 @@ module _ {K M : Type 0} (below : K → K → Bool) (order : Total below) (table 
       answer = Yes;
       memory = inserted lead l x q f m;
       row = plain.idle;
-      set = x ∷ a.set;
+      members = x ∷ a.members;
       listed' = front fs lo ++ entry q x ∷ bs;
       frees' = frees';
       is_answer = answer;
@@ -244,17 +244,17 @@ module _ {K M : Type 0} (below : K → K → Bool) (order : Total below) (table 
       is_anchor = anchor_as E eff;
       is_rows = rows_as E eff;
       is_reply = insert_reply (told_as E eff) ek false
-          (ne_eqb (length a.set) a.number (λ h. omega (arith, h, size, v.shape.total, ap length frees-is, v.number)));
+          (ne_eqb (length a.members) a.number (λ h. omega (arith, h, size, v.shape.total, ap length frees-is, v.number)));
       accepted = refl;
       number = length_inserted lead l x q f m;
       shape = shape_inserted below m n v.listed v.frees v.shape (front fs lo) bs lead l x q z f frees' (split fs lo bs is) led on frees-is free_on at (front_low fs lo) hi;
-      permuted = then (keep (subst (Permuted a.set) (listed_keys fs lo bs is) v.set))
+      permuted = then (keep (subst (Permuted a.members) (listed_keys fs lo bs is) v.members))
           (subst (Permuted (x ∷ (keys (front fs lo) ++ keys bs))) (sym (keys_append (front fs lo) (entry q x ∷ bs))) (permuted_middle x (keys (front fs lo)) (keys bs)));
       mark = gone.0;
       other_none = λ u l' d h. gone.1 u l' d ∙ h;
       other_marks = λ u l' d y h. stands_inserted below y (entry q x) (front fs lo) bs (table s'.marks u)
           (subst (λ r. Stands below y r (table s'.marks u)) (split fs lo bs is) (stands_kept below y v.listed (table s.marks u) (table s'.marks u) (inl (gone.1 u l' d)) h));
-      rule = rule (rules_else below order s.cells s.anchor.head x v.listed room mark start e.answer (table s'.marks t) a.set v.set not_wait none_ahead);
+      rule = rule (rules_else below order s.cells s.anchor.head x v.listed room mark start e.answer (table s'.marks t) a.members v.members not_wait none_ahead);
       final = λ _. refl;
       over = λ _ _. refl;
       held = λ _ u c d ch h. absurd (both_ways (changed_beside u a e) ch (changed answer (ap (λ z. alters (plain.running z x)) ek) u d));
@@ -284,7 +284,7 @@ module _ {K M : Type 0} (below : K → K → Bool) (order : Total below) (table 
     called_absent Lookup ek eff = called_ended No eff refl refl (λ tl. whole_reply tl Lookup ek ∙ ap (λ b. replied (cond b Yes No) (seated a t plain.idle)) not_there) none_ahead
     called_absent Insert ek eff = called_filled ek v.frees refl eff
     called_absent Remove ek eff = called_ended No eff refl refl
-        (λ tl. whole_reply tl Remove ek ∙ ap (λ b. cond b (replied Yes (holding (seated a t plain.idle) (without below x a.set))) (replied No (seated a t plain.idle))) not_there) none_ahead
+        (λ tl. whole_reply tl Remove ek ∙ ap (λ b. cond b (replied Yes (holding (seated a t plain.idle) (without below x a.members))) (replied No (seated a t plain.idle))) not_there) none_ahead
 
   -- by where the walk ended
   called_walked : (end : Met) → Walked below s.cells x start.done start.rest room end → effect below table s e.call ≡ decided k x t m end → Goal
@@ -292,7 +292,7 @@ module _ {K M : Type 0} (below : K → K → Bool) (order : Total below) (table 
       called_waits below table strict acts n w a s e s' v seat did told k x row what p eff start fs y bs is long
       (subst (In (entry p y)) (sym (split fs lo (entry p y ∷ bs) is)) (in_middle (entry p y) (front fs lo) bs)) hi
       (steps_as ∙ ap (stepped below a t) (told_as (waiting t p m) eff))
-      (rule (rules_wait below order s.cells s.anchor.head x v.listed room mark start e.answer (table s'.marks t) a.set v.set
+      (rule (rules_wait below order s.cells s.anchor.head x v.listed room mark start e.answer (table s'.marks t) a.members v.members
       (answer_as (waiting t p m) eff) fs p y bs is long lo hi
       (moved_marks below table strict acts n w a s e s' v seat did told k x row what p eff).0))
   called_walked end (finds fs lead p y bs l is few lo ge le led at on) eff = called_present fs lead p y bs l is few lo ge le led at on k refl eff

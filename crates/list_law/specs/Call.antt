@@ -7,7 +7,7 @@ use Rattle.basis.specs.declared.kind.Kind.TheVariants.{Lookup, Insert, Remove}
 use Rattle.basis.specs.declared.refusal.Refusal.{Refusal}
 use Rattle.basis.specs.declared.refusal.Refusal.TheVariants.{OutOfRange, WrongSizes, MaskRaised, NotAway, Away, AlreadyRunning, NotRunning, BadLink}
 use Rattle.basis.specs.declared.answer.Answer.{Answer}
-use Rattle.basis.specs.declared.answer.Answer.TheVariants.{No, Yes, Ok, Wait, Full, Refused}
+use Rattle.basis.specs.declared.answer.Answer.TheVariants.{No, Yes, Wait, Full, Refused}
 use Rattle.marks.specs.Meaning.{Table, Order, release, reserve, revoke, Means, Along}
 use Rattle.ledger.specs.Tests.{Test, test, first}
 use Rattle.ledger.specs.Ledger.{What, join, leave, begin, step, abandon, Call, Told, nothing, waited}
@@ -229,19 +229,19 @@ turn t (running k x) abandon = becomes idle (release t ∷ [])
 -- the effect of a turn
 abbrev pub turn_effect : {K : Type 0} → (K → K → Bool) → Memory K → ℕ → ℕ → Option ℕ → Turn K → Effect K
 turn_effect below m t w mark (refuses r) = refused m r
-turn_effect below m t w mark (becomes r os) = record { answer = Ok; told = nothing; memory = m; row = Some r; orders = os }
+turn_effect below m t w mark (becomes r os) = record { answer = Answer.Ok; told = nothing; memory = m; row = Some r; orders = os }
 turn_effect below m t w mark (runs k x) = window below m t w mark k x
 
 -- the sizes of cells and anchor are right
-abbrev pub sizes_fit : {K : Type 0} → List (Cell K) → Anchor → Bool
-sizes_fit cs a =
+abbrev pub fits_anchor : {K : Type 0} → List (Cell K) → Anchor → Bool
+fits_anchor cs a =
     nat_le 1 (length cs) && nat_le (length cs) 1008 && length cs == a.count && nat_le 1 a.window && nat_le a.window 64
 
 -- the refusals that depend on no row, in their order
 abbrev pub refusals : {K M : Type 0} → State K M → Call K → List Test
 refusals s c =
     test (not (nat_lt c.seat 16)) OutOfRange ∷
-    test (not (sizes_fit s.cells s.anchor)) WrongSizes ∷
+    test (not (fits_anchor s.cells s.anchor)) WrongSizes ∷
     test (not (length s.rows == 16)) WrongSizes ∷
     test (not (nat_lt c.level 7)) MaskRaised ∷ []
 

@@ -10,8 +10,8 @@ use Rattle.list_law.specs.Performed.{Ask, called}
 use Rattle.list_law.specs.Continued.{limit}
 
 -- the call of what a seat asks of an index of n cells
-abbrev pub asked : {K : Type 0} → ℕ → Ask K → Call K
-asked n k = record { what = k.what; seat = k.seat; level = k.level; cells = n; rows = 16 }
+abbrev pub call_asked : {K : Type 0} → ℕ → Ask K → Call K
+call_asked n k = record { what = k.what; seat = k.seat; level = k.level; cells = n; rows = 16 }
 
 -- the calls and the answers of events, in their order (the events have the newest first)
 abbrev pub calls_in : {K : Type 0} → List (Event K) → List (Call K)
@@ -36,7 +36,7 @@ pub record Driven {K M : Type 0} (below : K → K → Bool) (table : M → Table
     (n w : ℕ) (start : State K M) (asks : List (Ask K)) (answers : List Answer) (s : State K M) : Type 0 where
   pub in_turn : InTurn below table strict acts start asks answers s
   pub events : List (Event K)
-  pub calls : calls_in events ≡ map (asked n) asks
+  pub calls : calls_in events ≡ map (call_asked n) asks
   pub answered : answers_in events ≡ answers
   pub run : Run (list_index below table strict acts) n w events s
   pub lawful : Lawful below (list_index below table strict acts) n w (limit n w) events s run

@@ -56,7 +56,7 @@ pub record Sound {K M : Type 0} (below : K → K → Bool) (a : Ledger K) (s : S
   pub once : (p : ℕ) → p < a.number → times p listed + times p frees ≡ 1
   -- each listed key is below the next, and the listed keys are the set's, key for key
   pub rises : Rises below (keys listed)
-  pub set : Permuted a.set (keys listed)
+  pub members : Permuted a.members (keys listed)
   pub few : length listed ≤ a.number
 
 -- the link of a cell that there is
@@ -90,20 +90,20 @@ beyond below cs None y = true
 beyond below cs (Some p) y = past below (slice_get cs p) y
 
 -- the rule of waits, of a step with answer b that starts at this mark and leaves mark', on its way to x with width m
-pub record Waits {K : Type 0} (below : K → K → Bool) (cs : List (Cell K)) (head : Link) (set : List K)
+pub record Waits {K : Type 0} (below : K → K → Bool) (cs : List (Cell K)) (head : Link) (members : List K)
     (mark mark' : Option ℕ) (x : K) (m : ℕ) (b : Answer) : Type 0 where
   -- it waits exactly where m cells are met whose keys are all below the target
   pub waits : (b ≡ Wait) ↔ ((p : ℕ) × Meets below cs (first_link cs head mark) x m p)
   -- and then its mark is the last of these
   pub marked : (p : ℕ) → Meets below cs (first_link cs head mark) x m p → mark' ≡ Some p
   -- it waits exactly where at least m keys of the ledger's set lie beyond the mark and below the target
-  pub waits_by_set : (b ≡ Wait) ↔ (m ≤ between below (beyond below cs mark) x set)
+  pub waits_by_set : (b ≡ Wait) ↔ (m ≤ between below (beyond below cs mark) x members)
 
 -- every accepted step of a seat that the ledger has running waits by the rule, with the width that its window has
 abbrev pub Rule : {K M : Type 0} → (K → K → Bool) → (M → Table) → Ledger K → State K M → Event K → State K M → Type 0
 Rule {K} below table a s e s' =
     (k : Kind) (x : K) → e.call.what ≡ step → a.row e.call.seat ≡ running k x → is_accepted e.answer ≡ true →
-    Waits below s.cells s.anchor.head a.set (table s.marks e.call.seat) (table s'.marks e.call.seat) x
+    Waits below s.cells s.anchor.head a.members (table s.marks e.call.seat) (table s'.marks e.call.seat) x
     (reach e.call.seat s.anchor.window (table s.marks e.call.seat)) e.answer
 
 -- the singly linked index over a scheme, as the law sees it
@@ -122,7 +122,7 @@ Windows {K} {M} below table strict acts width place =
     (n w : ℕ) (es : List (Event K)) (s : State K M) → Run (list_index below table strict acts) n w es s →
     (e : Event K) (s' : State K M) → Next below table strict acts s e s' → (k : Kind) (x : K) →
     e.call.what ≡ step → (law.fed below n es).row e.call.seat ≡ running k x → is_accepted e.answer ≡ true →
-    Waits below s.cells s.anchor.head (law.fed below n es).set (table s.marks e.call.seat) (table s'.marks e.call.seat) x
+    Waits below s.cells s.anchor.head (law.fed below n es).members (table s.marks e.call.seat) (table s'.marks e.call.seat) x
     (width w) e.answer
     × ((p : ℕ) → Meets below s.cells (first_link s.cells s.anchor.head (table s.marks e.call.seat)) x (width w) p →
     table s'.marks e.call.seat ≡ Some (place p))

@@ -3,7 +3,6 @@ pub mod Runs
 pub mod Law
 pub mod Existence
 pub mod Performed
-pub mod Worked
 pub mod Continued
 pub mod Making
 pub mod Driven

@@ -2,7 +2,7 @@
 use Rattle.std.specs.Prelude.{◌≡◌, ℕ, zero, suc, Bool, true, false, cond, ◌&&◌, List, [], ◌∷◌, length, replicate, None, ◌==◌, nat_le}
 use Rattle.basis.specs.declared.refusal.Refusal.TheVariants.{WrongSizes}
 use Rattle.basis.specs.declared.answer.Answer.{Answer}
-use Rattle.basis.specs.declared.answer.Answer.TheVariants.{Ok, Refused}
+use Rattle.basis.specs.declared.answer.Answer.TheVariants.{Refused}
 use Rattle.marks.specs.Meaning.{Table, Order, release, Along}
 use Rattle.list_law.specs.Call.{Cell, away, State, Obeys}
 use Rattle.list_law.specs.Runs.{onward, chained}
@@ -34,7 +34,7 @@ made_of given w marks = record {
 -- to s'; else refused, and nothing is altered
 pub record Makes {K M : Type 0} (below : K → K → Bool) (table : M → Table) (strict : Bool) (acts : Order → M → M → Type 0)
     (s : State K M) (w : ℕ) (a : Answer) (s' : State K M) : Type 0 where
-  pub answer : a ≡ cond (makes (length s.cells) (length s.rows) w) Ok (Refused WrongSizes)
+  pub answer : a ≡ cond (makes (length s.cells) (length s.rows) w) Answer.Ok (Refused WrongSizes)
   pub made : makes (length s.cells) (length s.rows) w ≡ true → s' ≡ made_of s.cells w s'.marks
   pub marks : makes (length s.cells) (length s.rows) w ≡ true → Along (Obeys table strict acts) releases s.marks s'.marks
   pub same : makes (length s.cells) (length s.rows) w ≡ false → s' ≡ s

@@ -1,11 +1,8 @@
 // The law across runs, as contracts: of the index over every kind of key and every scheme of marks.
 ghost use Rattle.std.specs.Prelude.{suc, ◌+◌, ◌*◌, ◌/◌, Bool};
-ghost use Rattle.keys.specs.declared.sector.Sector.{Sector};
 ghost use Rattle.marks.specs.Meaning.{Table};
-ghost use Rattle.list_law.specs.Call.{Cell};
 ghost use Rattle.list_law.specs.Law.{Law, Windows};
 ghost use Rattle.list_law.specs.Existence.{unconstrained, RunsAreThere};
-ghost use Rattle.list_law.specs.Worked.{Worked, Sharp};
 
 use crate::proved;
 use keys::key::Key;
@@ -38,19 +35,4 @@ pub fn runs_are_there<K: Key, S: Scheme>() -> u8
     ensures { RunsAreThere K.Key.below S.Scheme.table S.Scheme.strict S.Scheme.acts 1008 64 }
 {
     proved::runs_are_there::<K, S>()
-}
-
-// Worked runs on three cells: a mark at place 1 is struck and the place is used again; with window 1 a lookup takes 4 steps,
-// which is the bound.
-pub fn worked_runs() -> u8
-    ensures { (a b c : Cell Sector) → Worked a b c 1 4 }
-{
-    proved::worked_runs()
-}
-
-// None of these promises could be stronger: the bound by a step less, the width by a cell more, the mark by a place on.
-pub fn promises_are_sharp() -> u8
-    ensures { Sharp (λ n w k. suc k * (n / w)) (λ w. w + 1) (λ p. p + 1) }
-{
-    proved::promises_are_sharp()
 }

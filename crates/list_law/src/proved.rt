@@ -1,12 +1,9 @@
 // What law.rt promises, as proved: the public functions there only cite these. Each stands twice so that an edit of a public clause is refused
 // at that clause, and not because a proof no longer fits it.
 ghost use Rattle.std.specs.Prelude.{suc, ◌+◌, ◌*◌, ◌/◌, Bool};
-ghost use Rattle.keys.specs.declared.sector.Sector.{Sector};
 ghost use Rattle.marks.specs.Meaning.{Table};
-ghost use Rattle.list_law.specs.Call.{Cell};
 ghost use Rattle.list_law.specs.Law.{Law, Windows};
 ghost use Rattle.list_law.specs.Existence.{unconstrained, RunsAreThere};
-ghost use Rattle.list_law.specs.Worked.{Worked, Sharp};
 
 use keys::key::Key;
 use marks::scheme::Scheme;
@@ -31,18 +28,6 @@ pub fn windows_wait_at_the_last_cell<K: Key, S: Scheme>() -> u8
 
 pub fn runs_are_there<K: Key, S: Scheme>() -> u8
     ensures { RunsAreThere K.Key.below S.Scheme.table S.Scheme.strict S.Scheme.acts 1008 64 }
-{
-    0
-}
-
-pub fn worked_runs() -> u8
-    ensures { (a b c : Cell Sector) → Worked a b c 1 4 }
-{
-    0
-}
-
-pub fn promises_are_sharp() -> u8
-    ensures { Sharp (λ n w k. suc k * (n / w)) (λ w. w + 1) (λ p. p + 1) }
 {
     0
 }

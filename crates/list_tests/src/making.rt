@@ -8,9 +8,9 @@ use list_cells::cell::Anchor;
 use list_making::making::make;
 use list_window::index::Index;
 use list_window::turn::Request;
-use marks::owner::Owner;
+use schemes::owner::Owner;
 use marks::scheme::Scheme;
-use marks::version::Version;
+use schemes::version::Version;
 use std::process::Abort;
 use std::test::Fail;
 

@@ -3,7 +3,7 @@ use crate::lent::{Lent, begin_of};
 use basis::answer::Answer;
 use basis::kind::Kind;
 use basis::refusal::Refusal;
-use keys::sector::Sector;
+use key_types::sector::Sector;
 use list_window::turn::Request;
 
 fn requests() -> [Request<Sector>; 5] {

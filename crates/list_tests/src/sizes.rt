@@ -4,13 +4,13 @@ use basis::answer::Answer;
 use basis::kind::Kind;
 use basis::mask::Mask;
 use basis::refusal::Refusal;
-use keys::sector::Sector;
+use key_types::sector::Sector;
 use list::calls::{abandon, begin, join, leave, step};
 use list_cells::cell::{Anchor, Cell};
 use list_making::making::make;
 use list_window::index::Index;
 use list_window::row::{Doing, Row};
-use marks::full::Full;
+use schemes::full::Full;
 use std::process::Abort;
 
 const REFUSED: Answer = Answer::Refused(Refusal::WrongSizes);

@@ -1,6 +1,1 @@
-pub mod Cleared
-pub mod Slots
-pub mod FullLaws
-pub mod OwnerLaws
-pub mod VersionLaws
 pub mod Computed

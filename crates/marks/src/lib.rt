@@ -1,10 +1,4 @@
-// What a scheme of marks is, and the schemes.
+// What a scheme of marks is, and what it means.
 #![tactic(auto)]
 
-mod clearing;
-pub mod full;
-pub mod owner;
-pub mod pair;
 pub mod scheme;
-pub mod spread;
-pub mod version;

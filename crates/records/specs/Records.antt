@@ -1,7 +1,7 @@
 -- What a record says: how it is told, how it is written, and what its bytes say. Assumes nothing.
 use Rattle.std.specs.Prelude.{ℕ, ◌+◌, ◌*◌, ◌/◌, ◌%◌, ◌^◌, ◌<◌, Bool, true, false, cond, List, [], ◌∷◌, ◌++◌, length, Some, None, codes, decimal, Option, ◌==◌}
 use Rattle.std.specs.Option.{option_map}
-use Rattle.basis.specs.Told.{Case, told}
+use Rattle.basis.specs.Cases.{Case, case_of}
 use Rattle.basis.specs.declared.kind.Kind.{Kind}
 use Rattle.basis.specs.declared.kind.Kind.TheVariants.{Lookup, Insert, Remove}
 use Rattle.records.specs.declared.record.SchemeName.{SchemeName}
@@ -11,24 +11,24 @@ use Rattle.records.specs.declared.record.Record.TheVariants.{Setup, Join, Leave,
 
 -- the schemes: number and word of each; none carries a value
 abbrev pub scheme : SchemeName → Case
-scheme Full = told 1 (codes "full") []
-scheme Owner = told 2 (codes "owner") []
-scheme Version = told 3 (codes "version") []
+scheme Full = case_of 1 (codes "full") []
+scheme Owner = case_of 2 (codes "owner") []
+scheme Version = case_of 3 (codes "version") []
 
 -- a begin, by its kind: its call byte, its word and its values
 abbrev pub begin : Kind → List ℕ → Case
-begin Lookup vs = told 3 (codes "begin lookup") vs
-begin Insert vs = told 4 (codes "begin insert") vs
-begin Remove vs = told 5 (codes "begin remove") vs
+begin Lookup vs = case_of 3 (codes "begin lookup") vs
+begin Insert vs = case_of 4 (codes "begin insert") vs
+begin Remove vs = case_of 5 (codes "begin remove") vs
 
 -- a record: its call byte, its word and its values
 abbrev pub said : Record → Case
-said (Setup s cells window) = told 0 (codes "setup") ((scheme s).number ∷ cells ∷ window ∷ [])
-said (Join seat) = told 1 (codes "join") (seat ∷ [])
-said (Leave seat) = told 2 (codes "leave") (seat ∷ [])
+said (Setup s cells window) = case_of 0 (codes "setup") ((scheme s).number ∷ cells ∷ window ∷ [])
+said (Join seat) = case_of 1 (codes "join") (seat ∷ [])
+said (Leave seat) = case_of 2 (codes "leave") (seat ∷ [])
 said (Begin k seat sector) = begin k (seat ∷ sector ∷ [])
-said (Step seat) = told 6 (codes "step") (seat ∷ [])
-said (Abandon seat) = told 7 (codes "abandon") (seat ∷ [])
+said (Step seat) = case_of 6 (codes "step") (seat ∷ [])
+said (Abandon seat) = case_of 7 (codes "abandon") (seat ∷ [])
 
 -- a comma, a name and a number
 abbrev pub named : List ℕ → ℕ → List ℕ

@@ -2,9 +2,9 @@
 use Rattle.std.proofs.Common.{◌≡◌, ℕ, false, List, [], ◌∷◌, ◌++◌, Some, None, Option, sym, refl, ap, ◌∙◌, subst, MatchOption}
 use Rattle.std.proofs.lemmas.Bool.{cond-true, cond-false, both_ways}
 use Rattle.basis.specs.declared.answer.Answer.{Answer}
-use Rattle.basis.specs.declared.answer.Answer.TheVariants.{Ok, Refused}
+use Rattle.basis.specs.declared.answer.Answer.TheVariants.{Refused}
 use Rattle.basis.specs.declared.refusal.Refusal.TheVariants.{WrongSizes}
-use Rattle.keys.specs.declared.sector.Sector.{Sector}
+use Rattle.key_types.specs.declared.sector.Sector.{Sector}
 use Rattle.list_law.specs.Making.{makes}
 use Rattle.list_law.specs.Performed.{Ask}
 use Rattle.records.specs.declared.record.Record.{Record}
@@ -44,11 +44,11 @@ module _ (setup : Option Record) (name : SchemeName) (n w : ℕ) (is : setup ≡
       subst (λ (o : Option Record). Told o asks stop text) (sym is) (e ∙ ap (lines_from 1) (sym (cond-false (makes n 16 w) _ _ bad)), λ good. absurd (both_ways _ bad good))
 
   -- a setup that is accepted, and the answers of the calls after it
-  pub told_accepted : (answers : List Answer) → Answered name n w asks answers → text ≡ lines_from 1 (Ok ∷ (answers ++ stop)) → Told setup asks stop text
+  pub told_accepted : (answers : List Answer) → Answered name n w asks answers → text ≡ lines_from 1 (Answer.Ok ∷ (answers ++ stop)) → Told setup asks stop text
   unfolding outcomes
   told_accepted answers a e =
       subst (λ (o : Option Record). Told o asks stop text) (sym is) (
-        e ∙ ap (λ l. lines_from 1 (Ok ∷ (l ++ stop))) a.computed ∙ ap (lines_from 1) (sym (cond-true (makes n 16 w) _ _ a.sizes)),
+        e ∙ ap (λ l. lines_from 1 (Answer.Ok ∷ (l ++ stop))) a.computed ∙ ap (lines_from 1) (sym (cond-true (makes n 16 w) _ _ a.sizes)),
         λ _. subst (λ l. LawfulBy name n w asks l) a.computed a.lawful,
       )
 

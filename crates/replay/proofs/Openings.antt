@@ -1,9 +1,9 @@
 -- The text of a replay begins with what the opening is answered. Assumes nothing.
 use Rattle.std.proofs.Common.{◌≡◌, ℕ, suc, Bool, true, false, cond, List, [], ◌∷◌, ◌++◌, length, Some, None, Option, refl, sym, ap, subst, append-nil, true≢false}
 use Rattle.basis.specs.declared.answer.Answer.{Answer}
-use Rattle.basis.specs.declared.answer.Answer.TheVariants.{Ok, Refused}
+use Rattle.basis.specs.declared.answer.Answer.TheVariants.{Refused}
 use Rattle.basis.specs.declared.refusal.Refusal.TheVariants.{WrongSizes}
-use Rattle.keys.specs.declared.sector.Sector.{Sector}
+use Rattle.key_types.specs.declared.sector.Sector.{Sector}
 use Rattle.list_law.specs.Making.{makes}
 use Rattle.list_law.specs.Performed.{Ask}
 use Rattle.records.specs.declared.record.Record.{Record}
@@ -22,7 +22,7 @@ setup_begins : (r : Record) (asks : List (Ask Sector)) (stop : List Answer) → 
 unfolding outcomes lines_from
 setup_begins (Setup name n w) asks stop is = go (makes n 16 w)
   where
-    go : (b : Bool) → BeginsWith (lines_from 1 (cond b (Ok ∷ (answers_by name n w asks ++ stop)) (Refused WrongSizes ∷ []))) (line_of 1 (cond b Ok (Refused WrongSizes)))
+    go : (b : Bool) → BeginsWith (lines_from 1 (cond b (Answer.Ok ∷ (answers_by name n w asks ++ stop)) (Refused WrongSizes ∷ []))) (line_of 1 (cond b Answer.Ok (Refused WrongSizes)))
     go true = (lines_from 2 (answers_by name n w asks ++ stop), refl)
     go false = ([], refl)
 setup_begins (Join seat) asks stop is = absurd (true≢false (sym is))

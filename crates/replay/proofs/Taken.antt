@@ -6,13 +6,13 @@ use Rattle.basis.specs.declared.refusal.Refusal.TheVariants.{BadRecord}
 use Rattle.basis.specs.declared.answer.Answer.TheVariants.{Refused}
 use Rattle.basis.specs.Refusals.{refusal}
 use Rattle.basis.proofs.Numbers.{same_number}
-use Rattle.keys.specs.declared.sector.Sector.{Sector}
+use Rattle.key_types.specs.declared.sector.Sector.{Sector}
 use Rattle.list_law.specs.Performed.{Ask}
 use Rattle.list_driver.specs.Asks.{ask_of}
 use Rattle.records.specs.declared.record.Record.{Record}
 use Rattle.schedule.specs.declared.reader.Part.{Part}
 use Rattle.schedule.specs.declared.reader.Reader.{Reader}
-use Rattle.schedule.specs.Reading.{Entry, Reading, handed, ended, malformed, reading, next_of}
+use Rattle.schedule.specs.Reading.{ReadRecord, Reading, handed, ended, malformed, reading, next_of}
 use Rattle.schedule.specs.Schedules.{still, Stops}
 use Rattle.schedule.specs.Whole.{seen, stop_number}
 use Rattle.schedule.proofs.Sofar.{Sofar, Gave, Stopped, sofar_more, sofar_all}
@@ -21,18 +21,18 @@ use Rattle.replay.specs.Answers.{asked_by, asks_of, setup_of, first_of}
 use Rattle.replay.specs.Texts.{stopped, stop_at}
 use Rattle.replay.specs.Views.{refused_by, Says}
 
-pub asks_more : (before : List Entry) (e : Entry) → asks_of (before ++ e ∷ []) ≡ asks_of before ++ asked_by e.content
+pub asks_more : (before : List ReadRecord) (e : ReadRecord) → asks_of (before ++ e ∷ []) ≡ asks_of before ++ asked_by e.content
 unfolding asks_of
 asks_more [] e = append-nil (asked_by e.content)
 asks_more (b ∷ before) e = ap (λ l. asked_by b.content ++ l) (asks_more before e) ∙ sym (append_assoc (asked_by b.content) (asks_of before) (asked_by e.content))
 
-setup_more : (before : List Entry) (e : Entry) → setup_of (before ++ e ∷ []) ≡ first_of (setup_of before) e.content
+setup_more : (before : List ReadRecord) (e : ReadRecord) → setup_of (before ++ e ∷ []) ≡ first_of (setup_of before) e.content
 setup_more [] e = refl
 setup_more (b ∷ before) e = refl
 
 -- some records were handed out so far: the first of them is kept, and what they ask
 pub record Taken (bytes : List ℕ) (reader : Reader) (setup : Option Record) (asks : List (Ask Sector)) : Type 0 where
-  pub records : List Entry
+  pub records : List ReadRecord
   pub sofar : Sofar bytes records reader
   pub first : setup ≡ setup_of records
   pub asked : asks ≡ asks_of records

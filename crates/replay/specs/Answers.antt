@@ -2,19 +2,19 @@
 -- scheme that the setup names. Assumes nothing.
 use Rattle.std.specs.Prelude.{ℕ, false, List, [], ◌∷◌, ◌++◌, replicate, Some, None, Option}
 use Rattle.basis.specs.declared.answer.Answer.{Answer}
-use Rattle.keys.specs.declared.sector.Sector.{Sector}
-use Rattle.marks.specs.Full.{full_new, full_act, full_get}
-use Rattle.marks.specs.Owner.{owner_new, owner_act, owner_get}
-use Rattle.marks.specs.Version.{version_new, version_act, version_get}
+use Rattle.key_types.specs.declared.sector.Sector.{Sector}
+use Rattle.schemes.specs.Full.{full_new, full_act, full_get}
+use Rattle.schemes.specs.Owner.{owner_new, owner_act, owner_get}
+use Rattle.schemes.specs.Version.{version_new, version_act, version_get}
 use Rattle.ledger.specs.Ledger.{What, join, leave, begin, step, abandon}
 use Rattle.list_law.specs.Call.{Cell, cell}
 use Rattle.list_law.specs.Performed.{Ask, answers_from}
-use Rattle.list_law.specs.Worked.{sector, sector_below}
+use Rattle.key_types.specs.Sector.{sector, sector_below}
 use Rattle.records.specs.declared.record.Record.{Record}
 use Rattle.records.specs.declared.record.Record.TheVariants.{Setup, Join, Leave, Begin, Step, Abandon}
 use Rattle.records.specs.declared.record.SchemeName.{SchemeName}
 use Rattle.records.specs.declared.record.SchemeName.TheVariants.{Full, Owner, Version}
-use Rattle.schedule.specs.Reading.{Entry}
+use Rattle.schedule.specs.Reading.{ReadRecord}
 
 -- a seat asks, with interrupts open
 abbrev pub asking : ℕ → What Sector → Ask Sector
@@ -30,12 +30,12 @@ asked_by (Step seat) = asking seat step ∷ []
 asked_by (Abandon seat) = asking seat abandon ∷ []
 
 -- the same of records one after another
-unfoldable pub asks_of : List Entry → List (Ask Sector)
+unfoldable pub asks_of : List ReadRecord → List (Ask Sector)
 asks_of [] = []
 asks_of (e ∷ es) = asked_by e.content ++ asks_of es
 
 -- what the first record of all says, if there is one; `first_of` is the step from one record to the next
-abbrev pub setup_of : List Entry → Option Record
+abbrev pub setup_of : List ReadRecord → Option Record
 setup_of [] = None
 setup_of (e ∷ es) = Some e.content
 

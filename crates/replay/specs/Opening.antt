@@ -2,7 +2,7 @@
 -- replay begins with it. Assumes nothing.
 use Rattle.std.specs.Prelude.{ℕ, Bool, cond, List, [], length, drop, true, Some, None, Option}
 use Rattle.basis.specs.declared.answer.Answer.{Answer}
-use Rattle.basis.specs.declared.answer.Answer.TheVariants.{Ok, Refused}
+use Rattle.basis.specs.declared.answer.Answer.TheVariants.{Refused}
 use Rattle.basis.specs.declared.refusal.Refusal.TheVariants.{WrongSizes, BadRecord}
 use Rattle.list_law.specs.Making.{makes}
 use Rattle.records.specs.declared.record.Record.{Record}
@@ -10,13 +10,9 @@ use Rattle.records.specs.declared.record.Record.TheVariants.{Setup, Join, Leave,
 use Rattle.schedule.specs.Reading.{Reading, handed, ended, malformed, next_of, open_refusal}
 use Rattle.schedule.specs.Lines.{line_of, refused_line}
 
--- the sizes that making takes with the sixteen rows that a replay lends: 1 to 1,008 cells, and a window of 1 to 64
-abbrev pub sizes_fit : ℕ → ℕ → Bool
-sizes_fit cells window = makes cells 16 window
-
 -- what a setup is answered; the reader hands out no other record first
 abbrev pub setup_answer : Record → Answer
-setup_answer (Setup s cells window) = cond (sizes_fit cells window) Ok (Refused WrongSizes)
+setup_answer (Setup s cells window) = cond (makes cells 16 window) Answer.Ok (Refused WrongSizes)
 setup_answer (Join seat) = Refused BadRecord
 setup_answer (Leave seat) = Refused BadRecord
 setup_answer (Begin k seat sector) = Refused BadRecord

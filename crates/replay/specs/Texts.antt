@@ -1,7 +1,7 @@
 -- The text that answers a schedule, and what is promised of it. Assumes nothing.
 use Rattle.std.specs.Prelude.{◌≡◌, ℕ, true, cond, List, [], ◌∷◌, ◌++◌, length, Some, None, Option}
 use Rattle.basis.specs.declared.answer.Answer.{Answer}
-use Rattle.basis.specs.declared.answer.Answer.TheVariants.{Ok, Refused}
+use Rattle.basis.specs.declared.answer.Answer.TheVariants.{Refused}
 use Rattle.basis.specs.declared.refusal.Refusal.TheVariants.{WrongSizes, BadRecord}
 use Rattle.list_law.specs.Making.{makes}
 use Rattle.records.specs.declared.record.Record.{Record}
@@ -9,7 +9,7 @@ use Rattle.records.specs.declared.record.Record.TheVariants.{Setup, Join, Leave,
 use Rattle.schedule.specs.Reading.{Reading, handed, ended, malformed, next_of, open_refusal}
 use Rattle.schedule.specs.Schedules.{read_all, still, Accounted}
 use Rattle.schedule.specs.Lines.{lines_from, refused_line, BeginsWith}
-use Rattle.keys.specs.declared.sector.Sector.{Sector}
+use Rattle.key_types.specs.declared.sector.Sector.{Sector}
 use Rattle.list_law.specs.Performed.{Ask}
 use Rattle.replay.specs.Answers.{asks_of, setup_of, answers_by}
 use Rattle.replay.specs.Runs.{LawfulBy}
@@ -26,7 +26,7 @@ stopped malformed = Refused BadRecord ∷ []
 unfoldable pub outcomes : Option Record → List (Ask Sector) → List Answer → List Answer
 outcomes None asks stop = stop
 outcomes (Some (Setup name cells window)) asks stop =
-    cond (makes cells 16 window) (Ok ∷ (answers_by name cells window asks ++ stop)) (Refused WrongSizes ∷ [])
+    cond (makes cells 16 window) (Answer.Ok ∷ (answers_by name cells window asks ++ stop)) (Refused WrongSizes ∷ [])
 outcomes (Some (Join seat)) asks stop = []
 outcomes (Some (Leave seat)) asks stop = []
 outcomes (Some (Begin kind seat n)) asks stop = []

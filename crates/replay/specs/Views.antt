@@ -3,7 +3,7 @@ use Rattle.std.specs.Prelude.{◌≡◌, ℕ, List, [], ◌∷◌, map, Some, No
 use Rattle.basis.specs.declared.refusal.Refusal.{Refusal}
 use Rattle.basis.specs.declared.answer.Answer.{Answer}
 use Rattle.basis.specs.declared.answer.Answer.TheVariants.{Refused}
-use Rattle.keys.specs.declared.sector.Sector.{Sector}
+use Rattle.key_types.specs.declared.sector.Sector.{Sector}
 use Rattle.list_driver.specs.declared.driver.Ask as declared
 use Rattle.list_driver.specs.Asks.{ask_of}
 use Rattle.list_law.specs.Performed.{Ask}

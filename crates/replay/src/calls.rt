@@ -7,7 +7,7 @@ ghost use Rattle.replay.specs.Answers.{asked_by, first_of};
 ghost use Rattle.replay.specs.Views.{listed_ask, Says};
 
 use basis::refusal::Refusal;
-use keys::sector::Sector;
+use key_types::sector::Sector;
 use list_driver::driver::Ask;
 use list_window::turn::Request;
 use records::record::Record;

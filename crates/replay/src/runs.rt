@@ -5,20 +5,20 @@ ghost use Rattle.list_law.specs.Making.{makes};
 ghost use Rattle.list_driver.specs.Asks.{ask_of};
 ghost use Rattle.list_cells.specs.Views.{cell_of};
 ghost use Rattle.replay.specs.Answers.{blank};
-ghost use Rattle.replay.specs.Runs.{Over, Answered};
+ghost use Rattle.replay.specs.Runs.{MadeAndRun, Answered};
 
 use basis::answer::Answer;
 use basis::mask::Mask;
 use basis::refusal::Refusal;
-use keys::sector::Sector;
+use key_types::sector::Sector;
 use list_cells::cell::{Anchor, Cell};
 use list_driver::driver::{Ask, run_calls};
 use list_window::index::Index;
 use list_window::row::{Doing, Row};
-use marks::full::Full;
-use marks::owner::Owner;
+use schemes::full::Full;
+use schemes::owner::Owner;
 use marks::scheme::Scheme;
-use marks::version::Version;
+use schemes::version::Version;
 use records::record::SchemeName;
 use std::alloc::{AllocError, Global};
 
@@ -42,7 +42,7 @@ fn run_over<S: Scheme>(
     answers: &mut [Answer],
 ) -> Result<(), Refusal>
     requires { length asks.now ≡ length answers.old }
-    ensures { MatchResult result (λ _. (makes (length cells.old) 16 window ≡ true) × Over S.Scheme.table S.Scheme.strict S.Scheme.acts (map cell_of cells.old) window scheme.old (map ask_of asks.now) answers.new) (λ e. (makes (length cells.old) 16 window ≡ false) × (e ≡ WrongSizes)) }
+    ensures { MatchResult result (λ _. (makes (length cells.old) 16 window ≡ true) × MadeAndRun S.Scheme.table S.Scheme.strict S.Scheme.acts (map cell_of cells.old) window scheme.old (map ask_of asks.now) answers.new) (λ e. (makes (length cells.old) 16 window ≡ false) × (e ≡ WrongSizes)) }
 {
     let mut rows = [Row { doing: Doing::Away }; 16];
     let mut anchor = Anchor {
@@ -67,7 +67,7 @@ fn answers_over<S: Scheme>(
     window: u8,
     asks: &[Ask<Sector>],
 ) -> Result<Result<Vec<Answer>, Refusal>, AllocError>
-    ensures { IfOk result (λ r. MatchResult r (λ v. (makes count 16 window ≡ true) × Over S.Scheme.table S.Scheme.strict S.Scheme.acts (blank count) window scheme.old (map ask_of asks.now) v.items) (λ e. (makes count 16 window ≡ false) × (e ≡ WrongSizes))) }
+    ensures { IfOk result (λ r. MatchResult r (λ v. (makes count 16 window ≡ true) × MadeAndRun S.Scheme.table S.Scheme.strict S.Scheme.acts (blank count) window scheme.old (map ask_of asks.now) v.items) (λ e. (makes count 16 window ≡ false) × (e ≡ WrongSizes))) }
 {
     let mut cells = blank_cells(heap, count)?;
     let mut answers = vec![in heap; Answer::Ok; asks.len()]?;

@@ -5,13 +5,13 @@ use Rattle.std.proofs.lemmas.List.{take_at, drop_at, length-append, length-take-
 use Rattle.std.proofs.lemmas.Bool.{le-ltb, ltb-false, cond-true, cond-false}
 use Rattle.records.specs.declared.record.Record.{Record}
 use Rattle.records.specs.Records.{two, from_two, fields, written, decoded}
-use Rattle.schedule.specs.Reading.{Entry, entry, handed, ended, malformed, in_place, if_in_place, content_at, cut_of, placed, parted, next_of}
+use Rattle.schedule.specs.Reading.{ReadRecord, read_record, handed, ended, malformed, in_place, if_in_place, content_at, cut_of, placed, parted, next_of}
 use Rattle.schedule.specs.Schedules.{Bytes, BeginsNone}
 use Rattle.schedule.proofs.Cuts.{hands}
 use Rattle.schedule.proofs.Writes.{from_two_two, two_from_two, decoded_fields, none_left}
 
 -- what is written of a record in its place is handed out
-pub next_written : (first : Bool) (total : ℕ) (r : Record) (more : List ℕ) → in_place first r ≡ true → next_of first total (written r ++ more) ≡ handed (entry (total - length more - length (fields r)) (fields r) r) more
+pub next_written : (first : Bool) (total : ℕ) (r : Record) (more : List ℕ) → in_place first r ≡ true → next_of first total (written r ++ more) ≡ handed (read_record (total - length more - length (fields r)) (fields r) r) more
 next_written first total r more here = hands first total (written r ++ more) (fields r) more r cut content
   where
     cut : cut_of (written r ++ more) ≡ Some (fields r, more)
@@ -71,24 +71,24 @@ two_at_least (c ∷ []) r e = none_left e
 two_at_least (c ∷ x ∷ bytes) r e = omega arith
 
 -- a record that is handed out was cut there and said by the bytes, and its offset is counted from the end
-pub record Handed (first : Bool) (total : ℕ) (rest : List ℕ) (e : Entry) (left : List ℕ) : Type 0 where
+pub record Handed (first : Bool) (total : ℕ) (rest : List ℕ) (e : ReadRecord) (left : List ℕ) : Type 0 where
   pub cut : Cut rest e.bytes left
   pub decodes : decoded e.bytes ≡ Some e.content
   pub here : in_place first e.content ≡ true
   pub offset : e.offset ≡ total - length left - length e.bytes
   pub shorter : length left + 4 ≤ length rest
 
-pub next_handed : (first : Bool) (total : ℕ) (rest : List ℕ) (e : Entry) (left : List ℕ) → next_of first total rest ≡ handed e left → Handed first total rest e left
+pub next_handed : (first : Bool) (total : ℕ) (rest : List ℕ) (e : ReadRecord) (left : List ℕ) → next_of first total rest ≡ handed e left → Handed first total rest e left
 next_handed first total [] e left h = let z : ◌≡◌ {A = ℕ} 0 1 = cc in absurd (omega arith)
 next_handed first total (b ∷ rest) e left h = go (cut_of (b ∷ rest)) refl h
   where
     found : (bytes after : List ℕ) → cut_of (b ∷ rest) ≡ Some (bytes, after) → (o : Option Record) → content_at first bytes ≡ o → placed total bytes after o ≡ handed e left → Handed first total (b ∷ rest) e left
     found bytes after is None said h = let z : ◌≡◌ {A = ℕ} 0 1 = cc in absurd (omega arith)
     found bytes after is (Some r) said h =
-        let same : entry (total - length after - length bytes) bytes r ≡ e = cc in
+        let same : read_record (total - length after - length bytes) bytes r ≡ e = cc in
         let tail : after ≡ left = cc in
         let told = content_some first bytes r said in
-        subst (λ (x : Entry × List ℕ). Handed first total (b ∷ rest) x.0 x.1) (λ i. (same i, tail i)) (record {
+        subst (λ (x : ReadRecord × List ℕ). Handed first total (b ∷ rest) x.0 x.1) (λ i. (same i, tail i)) (record {
           cut = cut_some (b ∷ rest) bytes after is;
           decodes = told.0;
           here = told.1;

@@ -4,7 +4,7 @@ use Rattle.std.proofs.lemmas.List.{take_all}
 use Rattle.std.proofs.lemmas.Bool.{le-ltb, lt-ltb, eq-eqb, cond-true, cond-false}
 use Rattle.records.specs.Records.{from_two}
 use Rattle.records.specs.declared.record.Record.{Record}
-use Rattle.schedule.specs.Reading.{open_refusal, cut_of, content_at, placed, parted, next_of, handed, malformed, entry}
+use Rattle.schedule.specs.Reading.{open_refusal, cut_of, content_at, placed, parted, next_of, handed, malformed, read_record}
 
 -- bytes that begin with 1 and are not too many are opened, and the rest is what follows the first byte
 pub opened : (bytes : List ℕ) → 0 < length bytes → get_or bytes 0 0 ≡ 1 → length bytes ≤ 60000 → (open_refusal bytes ≡ None) × (bytes ≡ 1 ∷ take (length bytes - 1) (drop 1 bytes))
@@ -31,7 +31,7 @@ cut_short (high ∷ low ∷ bytes) n h e l =
     cond-true _ _ _ (lt-ltb (length bytes) (from_two high low) (omega (arith, ap length all)))
 
 -- where a record is cut and may stand, it is handed out
-pub hands : (first : Bool) (total : ℕ) (rest bytes left : List ℕ) (r : Record) → cut_of rest ≡ Some (bytes, left) → content_at first bytes ≡ Some r → next_of first total rest ≡ handed (entry (total - length left - length bytes) bytes r) left
+pub hands : (first : Bool) (total : ℕ) (rest bytes left : List ℕ) (r : Record) → cut_of rest ≡ Some (bytes, left) → content_at first bytes ≡ Some r → next_of first total rest ≡ handed (read_record (total - length left - length bytes) bytes r) left
 hands first total [] bytes left r e f = let z : ◌≡◌ {A = ℕ} 0 1 = cc in absurd (omega arith)
 hands first total (b ∷ rest) bytes left r e f = ap (parted first total) e ∙ ap (placed total bytes left) f
 

@@ -9,7 +9,7 @@ use Rattle.basis.specs.Refusals.{refusal}
 use Rattle.schedule.specs.declared.reader.Part.{Part}
 use Rattle.schedule.specs.declared.reader.Reader.{Reader}
 use Rattle.schedule.specs.declared.contents.Contents.{Contents}
-use Rattle.schedule.specs.Reading.{Entry, entry, Reading, handed, ended, malformed, next_of, reading, outcome, due, content_due, left_after, first_after, Asked, open_refusal}
+use Rattle.schedule.specs.Reading.{ReadRecord, read_record, Reading, handed, ended, malformed, next_of, reading, outcome, due, content_due, left_after, first_after, Asked, open_refusal}
 use Rattle.schedule.specs.Schedules.{listing, read_more, read_on, read_all, still, Bytes, Stops}
 use Rattle.schedule.specs.Whole.{seen, stop_number, entries_of, refusal_of, stop_of, Holds}
 use Rattle.schedule.proofs.Askings.{next_handed}
@@ -34,7 +34,7 @@ gave_record before p after a = go (reading before) refl a.value a.content a.rest
         let offset : p.offset ≡ e.offset = cc in
         let bytes : p.bytes.now ≡ e.bytes = cc in
         let content : p.content ≡ e.content = cc in
-        record { is = is ∙ sym (λ i. handed (entry (offset i) (bytes i) (content i)) (r i)); total = a.total; first = f }
+        record { is = is ∙ sym (λ i. handed (read_record (offset i) (bytes i) (content i)) (r i)); total = a.total; first = f }
     go ended is v c r f = let z : ◌≡◌ {A = ℕ} 0 1 = ap (λ (k : Case). k.number) v in absurd (omega arith)
     go malformed is v c r f = let z : ◌≡◌ {A = ℕ} 0 2 = ap (λ (k : Case). k.number) v in absurd (omega arith)
 
@@ -86,14 +86,14 @@ stopped_refusal before q after e f b =
     }
 
 -- the records so far, with enough askings left for the rest
-pub record Sofar (bytes : List ℕ) (es : List Entry) (reader : Reader) : Type 0 where
+pub record Sofar (bytes : List ℕ) (es : List ReadRecord) (reader : Reader) : Type 0 where
   pub total : reader.total ≡ length bytes
   pub first : reader.first ≡ still true es
   pub askings : ℕ
   pub enough : length reader.rest.now ≤ askings
   pub whole : read_all bytes ≡ listing (es ++ (read_on askings reader.first reader.total reader.rest.now).entries) (read_on askings reader.first reader.total reader.rest.now).rest
 
-still_after : (es : List Entry) (e : Entry) → still true (es ++ e ∷ []) ≡ false
+still_after : (es : List ReadRecord) (e : ReadRecord) → still true (es ++ e ∷ []) ≡ false
 still_after [] e = refl
 still_after (x ∷ es) e = refl
 
@@ -108,7 +108,7 @@ sofar_none bytes reader is total first = record {
 }
 
 -- one record more
-pub sofar_more : (bytes : List ℕ) (es : List Entry) (before : Reader) (p : Part) (after : Reader) → Sofar bytes es before → Gave before p after → Sofar bytes (es ++ seen p ∷ []) after
+pub sofar_more : (bytes : List ℕ) (es : List ReadRecord) (before : Reader) (p : Part) (after : Reader) → Sofar bytes es before → Gave before p after → Sofar bytes (es ++ seen p ∷ []) after
 unfolding read_on
 sofar_more bytes es before p after s g = go s.askings s.enough s.whole
   where
@@ -139,7 +139,7 @@ stopped (suc n) first total rest s =
       | malformed ↦ λ s. refl
     ] s
 
-pub sofar_all : (bytes : List ℕ) (es : List Entry) (reader : Reader) → Sofar bytes es reader → Stops (reading reader) → read_all bytes ≡ listing es reader.rest.now
+pub sofar_all : (bytes : List ℕ) (es : List ReadRecord) (reader : Reader) → Sofar bytes es reader → Stops (reading reader) → read_all bytes ≡ listing es reader.rest.now
 sofar_all bytes es reader s stops =
     let none = stopped s.askings reader.first reader.total reader.rest.now stops in
     s.whole ∙ (λ i. listing (es ++ (none i).entries) (none i).rest) ∙ ap (λ l. listing l reader.rest.now) (append-nil es)

@@ -11,8 +11,8 @@ use Rattle.records.specs.declared.record.SchemeName.TheVariants.{Full, Owner, Ve
 use Rattle.records.specs.declared.record.Record.{Record}
 use Rattle.records.specs.declared.record.Record.TheVariants.{Setup, Join, Leave, Begin, Step, Abandon}
 use Rattle.records.specs.Records.{scheme, begin, two, four, fields, written, Fits}
-use Rattle.schedule.specs.Reading.{Entry, entry, Reading, handed, ended, malformed, next_of, no_first_byte, open_refusal}
-use Rattle.schedule.specs.Schedules.{Listing, listing, read_more, read_on, schedule, Lawful, entries_at, still, Bytes, BeginsNone, RoundTrip, NothingLost, Stops, ReadingEnds}
+use Rattle.schedule.specs.Reading.{ReadRecord, read_record, Reading, handed, ended, malformed, next_of, no_first_byte, open_refusal}
+use Rattle.schedule.specs.Schedules.{Listing, listing, read_more, read_on, schedule, Writable, entries_at, still, Bytes, BeginsNone, RoundTrip, NothingLost, Stops, ReadingEnds}
 use Rattle.schedule.proofs.Writes.{decoded_says, none_left}
 use Rattle.schedule.proofs.Askings.{next_written, Handed, next_handed, next_malformed, next_ended}
 
@@ -22,7 +22,7 @@ unfolding read_on
 step n first total rest a e = ap (read_more (read_on n false total) rest) e
 
 -- written records are read back
-back : (n : ℕ) (first : Bool) (total offset : ℕ) (rs : List Record) → Lawful first rs → offset + length (flat_map written rs) ≡ total → length (flat_map written rs) ≤ n → read_on n first total (flat_map written rs) ≡ listing (entries_at offset rs) []
+back : (n : ℕ) (first : Bool) (total offset : ℕ) (rs : List Record) → Writable first rs → offset + length (flat_map written rs) ≡ total → length (flat_map written rs) ≤ n → read_on n first total (flat_map written rs) ≡ listing (entries_at offset rs) []
 unfolding read_on
 back zero first total offset [] l e h = refl
 back zero first total offset (r ∷ rs) l e h = absurd (omega (arith, length-append (fields r) (flat_map written rs)))
@@ -33,7 +33,7 @@ back (suc n) first total offset (r ∷ rs) l e h =
     let at : total - length rest - length (fields r) ≡ offset + 2 = omega arith in
     let more = back n false total (offset + length (written r)) rs l.2 (omega arith) (omega arith) in
     step n first total (flat_map written (r ∷ rs)) _ (next_written first total r rest l.1)
-    ∙ (λ i. listing (entry (at i) (fields r) r ∷ (more i).entries) (more i).rest)
+    ∙ (λ i. listing (read_record (at i) (fields r) r ∷ (more i).entries) (more i).rest)
 
 -- what is written of a record whose numbers fit is bytes
 two_bytes : (n : ℕ) → n < 2 ^ 16 → Bytes (two n)
@@ -71,7 +71,7 @@ few_fields (Begin k seat sector) = lit< tt
 few_fields (Step seat) = lit< tt
 few_fields (Abandon seat) = lit< tt
 
-joined_bytes : (first : Bool) (rs : List Record) → Lawful first rs → Bytes (flat_map written rs)
+joined_bytes : (first : Bool) (rs : List Record) → Writable first rs → Bytes (flat_map written rs)
 joined_bytes first [] l = tt
 joined_bytes first (r ∷ rs) l =
     bytes_append (written r) (flat_map written rs) (bytes_append (two (length (fields r))) (fields r) (two_bytes _ (few_fields r)) (fields_bytes r l.0)) (joined_bytes false rs l.2)
@@ -79,7 +79,7 @@ joined_bytes first (r ∷ rs) l =
 -- what is read of what is left, against the written form
 record From (first : Bool) (offset : ℕ) (rest : List ℕ) (l : Listing) : Type 0 where
   records : List Record
-  lawful : Lawful first records
+  lawful : Writable first records
   entries : l.entries ≡ entries_at offset records
   bytes_are : rest ≡ flat_map written records ++ l.rest
   stops : (l.rest ≡ []) ⊎ BeginsNone (still first records) l.rest
@@ -93,7 +93,7 @@ none_from : (first : Bool) (offset : ℕ) (rest : List ℕ) → (rest ≡ []) �
 none_from first offset rest stops = record { records = []; lawful = tt; entries = refl; bytes_are = refl; stops = stops }
 
 -- one record, and then what is read of the bytes left after it
-one_from : (first : Bool) (total offset : ℕ) (rest : List ℕ) (x : Entry) (left : List ℕ) (l : Listing) → Bytes rest → offset + length rest ≡ total → Handed first total rest x left → ((from : ℕ) → from + length left ≡ total → Bytes left → From false from left l) → From first offset rest (listing (x ∷ l.entries) l.rest)
+one_from : (first : Bool) (total offset : ℕ) (rest : List ℕ) (x : ReadRecord) (left : List ℕ) (l : Listing) → Bytes rest → offset + length rest ≡ total → Handed first total rest x left → ((from : ℕ) → from + length left ≡ total → Bytes left → From false from left l) → From first offset rest (listing (x ∷ l.entries) l.rest)
 one_from first total offset rest x left l b e out on =
     let parts = out.cut.whole b in
     let says = decoded_says x.bytes x.content parts.1 out.decodes in
@@ -104,7 +104,7 @@ one_from first total offset rest x left l b e out on =
     record {
       records = x.content ∷ more.records;
       lawful = (says.1, out.here, more.lawful);
-      entries = λ i. entry (at i) (says.0 i) x.content ∷ more.entries i;
+      entries = λ i. read_record (at i) (says.0 i) x.content ∷ more.entries i;
       bytes_are = was ∙ ap (λ l. written x.content ++ l) more.bytes_are ∙ sym (append_assoc (written x.content) (flat_map written more.records) l.rest);
       stops = subst (λ f. (l.rest ≡ []) ⊎ BeginsNone f l.rest) (still_false more.records) more.stops;
     }

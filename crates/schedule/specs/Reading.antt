@@ -1,6 +1,6 @@
 -- What the reader does: how it opens, and what one asking gives. Assumes nothing.
 use Rattle.std.specs.Prelude.{◌≡◌, ℕ, ◌-◌, Bool, true, false, cond, not, List, [], ◌∷◌, length, take, drop, Some, None, codes, Option, Ok, Err, Result, ◌==◌, nat_lt}
-use Rattle.basis.specs.Told.{Case, told}
+use Rattle.basis.specs.Cases.{Case, case_of}
 use Rattle.basis.specs.Refusals.{refusal}
 use Rattle.records.specs.declared.record.Record.{Record}
 use Rattle.basis.specs.declared.refusal.Refusal.{Refusal}
@@ -9,17 +9,17 @@ use Rattle.schedule.specs.declared.reader.Reader.{Reader}
 use Rattle.records.specs.Records.{is_setup, from_two, decoded}
 
 -- a record as it is handed out: where its call byte stands, its bytes from there on, and what they say
-pub record Entry : Type 0 where
+pub record ReadRecord : Type 0 where
   pub offset : ℕ
   pub bytes : List ℕ
   pub content : Record
 
-abbrev pub entry : ℕ → List ℕ → Record → Entry
-entry n bs r = record { offset = n; bytes = bs; content = r }
+abbrev pub read_record : ℕ → List ℕ → Record → ReadRecord
+read_record n bs r = record { offset = n; bytes = bs; content = r }
 
 -- what one asking gives: a record and the bytes left after it, the end, or a refusal
 pub data Reading : Type 0 where
-  handed : Entry → List ℕ → Reading
+  handed : ReadRecord → List ℕ → Reading
   ended : Reading
   malformed : Reading
 
@@ -54,7 +54,7 @@ cut_of (high ∷ low ∷ bytes) = cond (nat_lt (length bytes) (from_two high low
 -- what is handed out of a schedule of that many bytes in all
 abbrev pub placed : ℕ → List ℕ → List ℕ → Option Record → Reading
 placed total bytes left None = malformed
-placed total bytes left (Some r) = handed (entry (total - length left - length bytes) bytes r) left
+placed total bytes left (Some r) = handed (read_record (total - length left - length bytes) bytes r) left
 
 abbrev pub parted : Bool → ℕ → Option (List ℕ × List ℕ) → Reading
 parted first total None = malformed
@@ -72,15 +72,15 @@ reading reader = next_of reader.first reader.total reader.rest.now
 -- what one asking of the reader gives, a record, the end or a refusal: number, word and values of each; a record carries its offset and
 -- then its bytes
 abbrev pub outcome : Result (Option Part) Refusal → Case
-outcome (Ok (Some p)) = told 0 (codes "record") (p.offset ∷ p.bytes.now)
-outcome (Ok None) = told 1 (codes "end") []
-outcome (Err r) = told 2 (codes "refused") ((refusal r).number ∷ [])
+outcome (Ok (Some p)) = case_of 0 (codes "record") (p.offset ∷ p.bytes.now)
+outcome (Ok None) = case_of 1 (codes "end") []
+outcome (Err r) = case_of 2 (codes "refused") ((refusal r).number ∷ [])
 
 -- the outcome that an asking has to have
 abbrev pub due : Reading → Case
-due (handed e left) = told 0 (codes "record") (e.offset ∷ e.bytes)
-due ended = told 1 (codes "end") []
-due malformed = told 2 (codes "refused") (11 ∷ [])
+due (handed e left) = case_of 0 (codes "record") (e.offset ∷ e.bytes)
+due ended = case_of 1 (codes "end") []
+due malformed = case_of 2 (codes "refused") (11 ∷ [])
 
 -- what the record says that is handed out, if one is
 abbrev pub content_of : Result (Option Part) Refusal → Option Record

@@ -3,14 +3,14 @@ use Rattle.std.specs.Prelude.{◌≡◌, ℕ, zero, suc, ◌+◌, ◌*◌, ◌<�
 use Rattle.std.specs.List.{flat_map, AllByRecursion}
 use Rattle.records.specs.declared.record.Record.{Record}
 use Rattle.records.specs.Records.{fields, written, Fits}
-use Rattle.schedule.specs.Reading.{Entry, entry, Reading, handed, ended, malformed, in_place, next_of, open_refusal}
+use Rattle.schedule.specs.Reading.{ReadRecord, read_record, Reading, handed, ended, malformed, in_place, next_of, open_refusal}
 
 -- what is read of a schedule: the records one after another, and the bytes at which reading stopped
 pub record Listing : Type 0 where
-  pub entries : List Entry
+  pub entries : List ReadRecord
   pub rest : List ℕ
 
-abbrev pub listing : List Entry → List ℕ → Listing
+abbrev pub listing : List ReadRecord → List ℕ → Listing
 listing es rest = record { entries = es; rest = rest }
 
 -- a record that was handed out, and then what is read of the bytes left after it
@@ -25,27 +25,27 @@ read_on zero first total rest = listing [] rest
 read_on (suc n) first total rest = read_more (read_on n false total) rest (next_of first total rest)
 
 -- what so many askings read of a schedule, after its first byte
-abbrev pub asked : ℕ → List ℕ → Listing
-asked n [] = listing [] []
-asked n (b ∷ rest) = read_on n true (length (b ∷ rest)) rest
+abbrev pub read_within : ℕ → List ℕ → Listing
+read_within n [] = listing [] []
+read_within n (b ∷ rest) = read_on n true (length (b ∷ rest)) rest
 
 -- all that is read of a schedule: it has fewer records than bytes
 abbrev pub read_all : List ℕ → Listing
-read_all bytes = asked (length bytes) bytes
+read_all bytes = read_within (length bytes) bytes
 
 -- the written form of a schedule
 abbrev pub schedule : List Record → List ℕ
 schedule rs = 1 ∷ flat_map written rs
 
 -- records that can be written and stand in their places: the first is a setup, and no other is
-abbrev pub Lawful : Bool → List Record → Type 0
-Lawful first [] = Unit {0}
-Lawful first (r ∷ rs) = Fits r × (in_place first r ≡ true) × Lawful false rs
+abbrev pub Writable : Bool → List Record → Type 0
+Writable first [] = Unit {0}
+Writable first (r ∷ rs) = Fits r × (in_place first r ≡ true) × Writable false rs
 
 -- these records, written one after another from that offset on, as the reader hands them out
-abbrev pub entries_at : ℕ → List Record → List Entry
+abbrev pub entries_at : ℕ → List Record → List ReadRecord
 entries_at offset [] = []
-entries_at offset (r ∷ rs) = entry (offset + 2) (fields r) r ∷ entries_at (offset + length (written r)) rs
+entries_at offset (r ∷ rs) = read_record (offset + 2) (fields r) r ∷ entries_at (offset + length (written r)) rs
 
 -- whether the first record is still to come after these, where it was or was not before them
 abbrev pub still : {X : Type 0} → Bool → List X → Bool
@@ -62,13 +62,13 @@ Bytes = AllByRecursion (λ b. b < 256)
 
 -- what is written is bytes, which are opened and read back: exactly those records, each at its offset, and then the end
 abbrev pub RoundTrip : ℕ → Type 0
-RoundTrip limit = (rs : List Record) → Lawful true rs → length (schedule rs) ≤ limit → Bytes (schedule rs) × (open_refusal (schedule rs) ≡ None) × (read_all (schedule rs) ≡ listing (entries_at 1 rs) [])
+RoundTrip limit = (rs : List Record) → Writable true rs → length (schedule rs) ≤ limit → Bytes (schedule rs) × (open_refusal (schedule rs) ≡ None) × (read_all (schedule rs) ≡ listing (entries_at 1 rs) [])
 
 -- bytes that are opened are the first byte, the written form of the records handed out, and then nothing or a rest that
 -- begins no record: nothing is skipped, and nothing is invented
 pub record Accounted (bytes : List ℕ) : Type 0 where
   pub records : List Record
-  pub lawful : Lawful true records
+  pub lawful : Writable true records
   pub entries : (read_all bytes).entries ≡ entries_at 1 records
   pub bytes_are : bytes ≡ schedule records ++ (read_all bytes).rest
   pub stops : ((read_all bytes).rest ≡ []) ⊎ BeginsNone (still true records) (read_all bytes).rest
@@ -88,4 +88,4 @@ StopsAfter bytes l = Stops (next_of (still true l.entries) (length bytes) l.rest
 
 -- reading ends: one asking for each so many bytes is enough
 abbrev pub ReadingEnds : ℕ → Type 0
-ReadingEnds each = (bytes : List ℕ) (n : ℕ) → open_refusal bytes ≡ None → length bytes ≤ each * n → StopsAfter bytes (asked n bytes)
+ReadingEnds each = (bytes : List ℕ) (n : ℕ) → open_refusal bytes ≡ None → length bytes ≤ each * n → StopsAfter bytes (read_within n bytes)

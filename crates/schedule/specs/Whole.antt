@@ -5,12 +5,12 @@ use Rattle.basis.specs.declared.refusal.Refusal.{Refusal}
 use Rattle.basis.specs.Refusals.{refusal}
 use Rattle.schedule.specs.declared.reader.Part.{Part}
 use Rattle.schedule.specs.declared.contents.Contents.{Contents}
-use Rattle.schedule.specs.Reading.{Entry, entry, Reading, handed, ended, malformed, next_of, open_refusal}
+use Rattle.schedule.specs.Reading.{ReadRecord, read_record, Reading, handed, ended, malformed, next_of, open_refusal}
 use Rattle.schedule.specs.Schedules.{read_all, still, Accounted}
 
 -- a part that was handed out, as the definitions have it
-abbrev pub seen : Part → Entry
-seen p = entry p.offset p.bytes.now p.content
+abbrev pub seen : Part → ReadRecord
+seen p = read_record p.offset p.bytes.now p.content
 
 -- the number at which reading stops, if it does not come to the end
 abbrev pub stop_number : Reading → Option ℕ
@@ -19,7 +19,7 @@ stop_number ended = None
 stop_number malformed = Some 11
 
 -- the records of bytes, and the number at which they stop: one of the opening, or else that of the asking after the last record
-abbrev pub entries_of : List ℕ → Option ℕ → List Entry
+abbrev pub entries_of : List ℕ → Option ℕ → List ReadRecord
 entries_of bytes None = (read_all bytes).entries
 entries_of bytes (Some n) = []
 

@@ -4,10 +4,10 @@ use mathlib.Core.HLevel.{is_prop→PathP, Π_prop, →_prop}
 use native.Mathlib.Bridge.{le_prop}
 use Rattle.std.specs.Option.{option_map}
 use Rattle.basis.specs.declared.bounded.Bounded.{Bounded}
-use Rattle.marks.specs.declared.version.Stamped.{Stamped}
-use Rattle.marks.specs.declared.version.Version.{Version}
-use Rattle.marks.specs.Owner.{Owned}
-use Rattle.marks.specs.Version.{Seen, Versioned, Sound, seen_of, version_state}
+use Rattle.schemes.specs.declared.version.Stamped.{Stamped}
+use Rattle.schemes.specs.declared.version.Version.{Version}
+use Rattle.schemes.specs.Owner.{Owned}
+use Rattle.schemes.specs.Version.{Seen, Versioned, Sound, seen_of, version_state}
 use Rattle.scheme_examples.specs.Whole.{TellsAll, StatesTellAll}
 
 bounded_told : {END : ℕ} → TellsAll (λ (b : Bounded END). b.number)

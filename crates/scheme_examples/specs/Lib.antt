@@ -1,3 +1,2 @@
-pub mod Examples
 pub mod Whole
 pub mod Nested

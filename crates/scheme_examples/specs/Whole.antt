@@ -3,10 +3,10 @@
 use Rattle.std.specs.Prelude.{◌≡◌, List}
 use Rattle.marks.specs.Meaning.{Order, Along}
 use Rattle.marks.specs.Carried.{carried}
-use Rattle.marks.specs.declared.version.Version.{Version}
-use Rattle.marks.specs.Full.{full_state, full_act}
-use Rattle.marks.specs.Owner.{owner_state, owner_act}
-use Rattle.marks.specs.Version.{version_state, version_act}
+use Rattle.schemes.specs.declared.version.Version.{Version}
+use Rattle.schemes.specs.Full.{full_state, full_act}
+use Rattle.schemes.specs.Owner.{owner_state, owner_act}
+use Rattle.schemes.specs.Version.{version_state, version_act}
 
 -- two values of which the same is told are the same
 abbrev pub TellsAll : {X Y : Type 0} → (X → Y) → Type 0

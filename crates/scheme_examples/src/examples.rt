@@ -1,28 +1,15 @@
-// The worked examples: as one theorem over the definitions, and on the code that runs.
+// The worked examples of schemes and keys on the code that runs.
 ghost use Rattle.std.specs.Prelude.{◌≡◌, true, None, Ok};
-ghost use Rattle.marks.specs.Spread.{slot};
-ghost use Rattle.scheme_examples.specs.Examples.{Examples};
+ghost use Rattle.schemes.specs.Spread.{slot};
 
 use basis::bounded::{Place, Seat};
 use basis::refusal::Refusal;
 use keys::key::Key;
-use keys::wear::Wear;
-use marks::owner::Owner;
+use key_types::wear::Wear;
+use schemes::owner::Owner;
 use marks::scheme::Scheme;
-use marks::spread::slot_of;
-use marks::version::Version;
-
-// All examples, over the definitions that the contracts of the code cite.
-pub fn examples_hold() -> u8
-    ensures { Examples }
-{
-    compute_examples();
-    0
-}
-
-fn compute_examples()
-    ensures computed { Examples }
-{}
+use schemes::spread::slot_of;
+use schemes::version::Version;
 
 // Owner: seat 0 reserves 0, seat 1 reserves 16, then seat 0's mark is none.
 pub fn owner_loses_its_slot() -> Result<Option<Place>, Refusal>
@@ -72,7 +59,6 @@ pub fn slots_of_3_and_19() -> Result<(usize, usize), Refusal>
     ensures answer { result ≡ Ok (5, 5) }
     ensures slots { result ≡ Ok (slot 3, slot 19) }
 {
-    compute_examples();
     let low = Place::try_from(3)?;
     let high = Place::try_from(19)?;
     Ok((slot_of(low), slot_of(high)))

@@ -5,11 +5,11 @@ use crate::examples::{
 };
 use crate::uses::{beside_another_in_nested, revoked_at_each};
 use basis::bounded::{BankBit, Place, Seat};
-use marks::full::Full;
-use marks::owner::Owner;
-use marks::pair::Pair;
+use schemes::full::Full;
+use schemes::owner::Owner;
+use schemes::pair::Pair;
 use marks::scheme::Scheme;
-use marks::version::Version;
+use schemes::version::Version;
 use std::test::Fail;
 
 #[test]

@@ -3,18 +3,18 @@ ghost use Rattle.std.specs.Prelude.{◌≡◌, true, [], ◌∷◌, if◌then◌
 ghost use Rattle.marks.specs.Meaning.{Along};
 ghost use Rattle.marks.specs.Meaning.Order.{release, reserve, revoke};
 ghost use Rattle.marks.specs.Marks.{numbered};
-ghost use Rattle.marks.specs.Full.{full_state, full_act, full_get};
-ghost use Rattle.marks.specs.Owner.{owner_state, owner_act};
-ghost use Rattle.marks.specs.Version.{version_state, version_act};
-ghost use Rattle.marks.specs.Pair.{uses_second};
+ghost use Rattle.schemes.specs.Full.{full_state, full_act, full_get};
+ghost use Rattle.schemes.specs.Owner.{owner_state, owner_act};
+ghost use Rattle.schemes.specs.Version.{version_state, version_act};
+ghost use Rattle.schemes.specs.Pair.{uses_second};
 ghost use Rattle.scheme_examples.specs.Nested.{nested_acts};
 
 use crate::generic::{mark_beside_another, move_mark, reserve_and_revoke};
 use basis::bounded::{BankBit, Place, Seat};
-use marks::full::Full;
-use marks::owner::Owner;
-use marks::pair::Pair;
-use marks::version::Version;
+use schemes::full::Full;
+use schemes::owner::Owner;
+use schemes::pair::Pair;
+use schemes::version::Version;
 
 // A pair of a pair, over three schemes of different make.
 pub type Nested = Pair<Pair<Full, Owner>, Version>;

@@ -1,10 +1,10 @@
 // The states by which the contracts of the schemes speak tell all of them, and lists of orders compute on them.
-ghost use Rattle.marks.specs.Full.{full_state, full_act};
-ghost use Rattle.marks.specs.Owner.{owner_state, owner_act};
-ghost use Rattle.marks.specs.Version.{version_state, version_act};
+ghost use Rattle.schemes.specs.Full.{full_state, full_act};
+ghost use Rattle.schemes.specs.Owner.{owner_state, owner_act};
+ghost use Rattle.schemes.specs.Version.{version_state, version_act};
 ghost use Rattle.scheme_examples.specs.Whole.{TellsAll, StatesTellAll, Computes, OrdersCompute};
 
-use marks::version::Version;
+use schemes::version::Version;
 
 // Two schemes of equal states are equal, so what an order makes of a state is what it makes of the scheme.
 pub fn states_tell_all() -> u8

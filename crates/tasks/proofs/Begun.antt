@@ -2,9 +2,9 @@
 use Rattle.std.proofs.Common.{◌≡◌, ℕ, Bool, true, false, cond, List, [], ◌∷◌, ◌++◌, length, sym, refl, subst}
 use Rattle.basis.specs.declared.refusal.Refusal.TheVariants.{WrongSizes}
 use Rattle.basis.specs.declared.answer.Answer.{Answer}
-use Rattle.basis.specs.declared.answer.Answer.TheVariants.{Ok, Refused}
-use Rattle.keys.specs.declared.wear.Wear.{Wear}
-use Rattle.keys.specs.Wear.{wear_below}
+use Rattle.basis.specs.declared.answer.Answer.TheVariants.{Refused}
+use Rattle.key_types.specs.declared.wear.Wear.{Wear}
+use Rattle.key_types.specs.Wear.{wear_below}
 use Rattle.marks.specs.Meaning.{Table, Order}
 use Rattle.ledger.specs.Ledger.{join}
 use Rattle.list_law.specs.Call.{State}
@@ -19,14 +19,14 @@ use Rattle.tasks.proofs.Manned.{refused_apart}
 use Rattle.tasks.specs.Stations.{joining}
 
 -- a making that is ok was accepted
-pub accepted : (b : Bool) → Ok ≡ cond b Ok (Refused WrongSizes) → b ≡ true
+pub accepted : (b : Bool) → Answer.Ok ≡ cond b Answer.Ok (Refused WrongSizes) → b ≡ true
 accepted true is = refl
 accepted false is = absurd (refused_apart (sym is))
 
 -- an accepted join more, at level 0
 pub joins : {S : Type 0} {table : S → Table} {strict : Bool} {acts : Order → S → S → Type 0} {n w : ℕ} {start : State Wear S} {asks : List (Ask Wear)} {answers : List Answer} {i j : Index Wear S} {t level : ℕ} → length i.cells.now ≡ n → length i.rows.now ≡ 16 → level ≡ 0
-    → Driven wear_below table strict acts n w start asks answers (lent_state i) → CalledOn wear_below table strict acts i join t level Ok j
-    → Driven wear_below table strict acts n w start (asks ++ joining t ∷ []) (answers ++ Ok ∷ []) (lent_state j)
+    → Driven wear_below table strict acts n w start asks answers (lent_state i) → CalledOn wear_below table strict acts i join t level Answer.Ok j
+    → Driven wear_below table strict acts n w start (asks ++ joining t ∷ []) (answers ++ Answer.Ok ∷ []) (lent_state j)
 joins {table = table} {strict = strict} {acts = acts} {n = n} {w = w} {asks = asks} {t = t} long sixteen low run called =
     driven_as wear_below table strict acts n w (λ i. asks ++ record { seat = t; level = low i; what = join } ∷ []) refl (driven_on long sixteen run called)
 

@@ -3,31 +3,31 @@ use Rattle.std.specs.Prelude.{Result, IsOk}
 use Rattle.std.specs.declared.result.Result.TheVariants as result
 use Rattle.std.proofs.Common.{◌≡◌, ℕ, Bool, ◌≢◌, sym, refl, ◌∙◌, subst, inl}
 use Rattle.basis.specs.declared.refusal.Refusal.{Refusal}
-use Rattle.basis.specs.declared.answer.Answer.TheVariants.{Ok, Refused}
+use Rattle.basis.specs.declared.answer.Answer.TheVariants.{Refused}
 use Rattle.basis.specs.declared.answer.Answer.{Answer}
-use Rattle.keys.specs.declared.wear.Wear.{Wear}
-use Rattle.keys.specs.Wear.{wear_below}
+use Rattle.key_types.specs.declared.wear.Wear.{Wear}
+use Rattle.key_types.specs.Wear.{wear_below}
 use Rattle.marks.specs.Meaning.{Table, Order}
 use Rattle.ledger.specs.Ledger.{What, Call, join, leave}
 use Rattle.list_law.specs.Call.{State}
 use Rattle.list_law.proofs.Lists.{clash}
 use Rattle.list_window.specs.declared.index.Index.{Index}
 use Rattle.list_window.specs.Lent.{lent_state}
-use Rattle.list.specs.declared.slip.Kept.{Kept}
+use Rattle.list.specs.declared.slip.RefusedLeave.{RefusedLeave}
 use Rattle.list.specs.Calls.{call_on, CalledOn}
 use Rattle.list.specs.Slips.{left, Held}
 use Rattle.list.proofs.Held.{held_on}
 use Rattle.tasks.specs.declared.turn.Ask.{Ask}
 use Rattle.tasks.specs.declared.turn.Ask.TheVariants.{Begin, Step, Abandon}
-use Rattle.tasks.specs.Turns.{asked, Called}
+use Rattle.tasks.specs.Turns.{what_asked, Called}
 use Rattle.tasks.specs.Manned.{Manned}
 
 -- a refusal is not an ok
-pub refused_apart : {q : Refusal} → Refused q ≡ Ok → ⊥
+pub refused_apart : {q : Refusal} → Refused q ≡ Answer.Ok → ⊥
 refused_apart h = clash (cc)
 
 -- a leave whose answer is ok gave its slip back
-pub ok_left : {X : Type 0} (r : Result X Kept) → left r ≡ Ok → IsOk r
+pub ok_left : {X : Type 0} (r : Result X RefusedLeave) → left r ≡ Answer.Ok → IsOk r
 ok_left (result.Ok x) h = refl
 ok_left (result.Err kept) h = absurd (refused_apart h)
 
@@ -35,7 +35,7 @@ ok_left (result.Err kept) h = absurd (refused_apart h)
 pub join_apart : {K : Type 0} → ◌≢◌ {A = What K} join leave
 join_apart h = clash (cc)
 
-pub asked_apart : (a : Ask) → asked a ≢ leave
+pub asked_apart : (a : Ask) → what_asked a ≢ leave
 asked_apart (Begin k x) h = clash (cc)
 asked_apart Step h = clash (cc)
 asked_apart Abandon h = clash (cc)

@@ -2,7 +2,7 @@
 use Rattle.std.proofs.Common.{◌≡◌, ℕ, ◌<◌, Bool, List, [], ◌∷◌, ◌++◌, map, length, get_or, set, Some, sym, refl, ap, ◌∙◌, subst, append_assoc, append-nil}
 use Rattle.std.proofs.lemmas.List.{map_push, length-map, map-set, get_or-map, set-get_or}
 use Rattle.basis.specs.declared.answer.Answer.{Answer}
-use Rattle.keys.specs.Wear.{wear_below}
+use Rattle.key_types.specs.Wear.{wear_below}
 use Rattle.marks.specs.Meaning.{Table, Order}
 use Rattle.list_law.specs.Performed.{called}
 use Rattle.list_law.specs.Driven as driven
@@ -17,7 +17,7 @@ use Rattle.tasks.specs.declared.turn.Seen.{Seen}
 use Rattle.tasks.specs.declared.turn.Task.{Task}
 use Rattle.tasks.specs.declared.turn.Task.TheVariants.{Host, Cleaner}
 use Rattle.tasks.specs.declared.turn.Turn.{Turn}
-use Rattle.tasks.specs.Turns.{asked, Called}
+use Rattle.tasks.specs.Turns.{what_asked, Called}
 use Rattle.tasks.specs.Stations.{state, seat, call, Same, Watched, Watches, ask_in, answer_in, Plays}
 
 module _ {S : Type 0} (table : S → Table) (strict : Bool) (acts : Order → S → S → Type 0) (d : Station S) where
@@ -37,10 +37,10 @@ module _ {S : Type 0} (table : S → Table) (strict : Bool) (acts : Order → S 
       let before = plays n w start asks answers long run in
       let new : List Answer = before.0 in
       let sixteen = sym (length-map d'.rows row_of) ∙ d'.manned.host.rows in
-      let is : call d' t ≡ driven.asked n (ask_in d (line t s)) =
-      λ i. record { what = asked t.ask; seat = seat_same d' same t.task i; level = d'.manned.level i; cells = (same.cells ∙ long) i; rows = sixteen i } in
+      let is : call d' t ≡ driven.call_asked n (ask_in d (line t s)) =
+      λ i. record { what = what_asked t.ask; seat = seat_same d' same t.task i; level = d'.manned.level i; cells = (same.cells ∙ long) i; rows = sixteen i } in
       let own : call d' t ≡ called (state d') (ask_in d (line t s)) =
-      λ i. record { what = asked t.ask; seat = seat_same d' same t.task i; level = d'.manned.level i; cells = sym (length-map d'.cells cell_of) i; rows = sym (length-map d'.rows row_of) i } in
+      λ i. record { what = what_asked t.ask; seat = seat_same d' same t.task i; level = d'.manned.level i; cells = sym (length-map d'.cells cell_of) i; rows = sym (length-map d'.rows row_of) i } in
       let more = driven_more wear_below table strict acts n w start _ _ (state d') (ask_in d (line t s)) (call d' t) s.answer (state d'') is own before.2 made.did made.runs in (
         new ++ s.answer ∷ [],
         map_push answer_in ls (line t s) ∙ ap (λ l. l ++ Some s.answer ∷ []) before.1 ∙ sym (map_push Some new s.answer),

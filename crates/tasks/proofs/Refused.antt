@@ -4,12 +4,12 @@ use Rattle.std.proofs.lemmas.Bool.{eq-eqb, both_ways}
 use Rattle.basis.specs.declared.refusal.Refusal.{Refusal}
 use Rattle.basis.specs.declared.refusal.Refusal.TheVariants.{OutOfRange, WrongSizes, MaskRaised, NotAway}
 use Rattle.basis.specs.declared.answer.Answer.TheVariants.{Refused}
-use Rattle.keys.specs.declared.wear.Wear.{Wear}
-use Rattle.keys.specs.Wear.{wear_below}
+use Rattle.key_types.specs.declared.wear.Wear.{Wear}
+use Rattle.key_types.specs.Wear.{wear_below}
 use Rattle.marks.specs.Meaning.{Table, Order}
 use Rattle.ledger.specs.Tests.{test, first}
 use Rattle.ledger.specs.Ledger.{Call, join}
-use Rattle.list_law.specs.Call.{Cell, Row, away, idle, running, State, Anchor, memory_of, sizes_fit, row_at, row_or, turn, turn_effect, call_effect, effect, rows_after, Did}
+use Rattle.list_law.specs.Call.{Cell, Row, away, idle, running, State, Anchor, memory_of, fits_anchor, row_at, row_or, turn, turn_effect, call_effect, effect, rows_after, Did}
 use Rattle.list_law.specs.Making.{makes}
 use Rattle.list_law.proofs.Lists.{nth_set_other}
 use Rattle.tasks.specs.Stations.{not_opened}
@@ -33,7 +33,7 @@ module _ (n w h k : ℕ) where
   seats_refused e f g a = λ i. first (test (not (e i)) WrongSizes ∷ test (not (f i)) OutOfRange ∷ test (not (g i)) OutOfRange ∷ test (a i) NotAway ∷ [])
 
 -- sizes that making takes are right in a call
-pub sizes_right : (n w : ℕ) (cs : List (Cell Wear)) (a : Anchor) → length cs ≡ n → a.count ≡ n → a.window ≡ w → makes n 16 w ≡ true → sizes_fit cs a ≡ true
+pub sizes_right : (n w : ℕ) (cs : List (Cell Wear)) (a : Anchor) → length cs ≡ n → a.count ≡ n → a.window ≡ w → makes n 16 w ≡ true → fits_anchor cs a ≡ true
 sizes_right n w cs a long count wide e =
     (λ i. leb 1 (long i) && leb (long i) 1008 && eqb (long i) (count i) && leb 1 (wide i) && leb (wide i) 64)
     ∙ ap (λ b. leb 1 n && leb n 1008 && b && leb 1 w && leb w 64) (eq-eqb n n refl) ∙ e
@@ -53,7 +53,7 @@ other_row rs t u (Some r) d = ap row_or (nth_set_other rs t u r d)
 
 -- a join at level 0 of an index whose sizes are right, which was refused
 module _ {M : Type 0} {table : M → Table} {strict : Bool} {acts : Order → M → M → Type 0} (s : State Wear M) (c : Call Wear) (q : Refusal) (s' : State Wear M)
-    (did : Did wear_below table strict acts s c (Refused q) s') (what : c.what ≡ join) (level : ltb c.level 7 ≡ true) (cells : sizes_fit s.cells s.anchor ≡ true) (rows : length s.rows ≡ 16) where
+    (did : Did wear_below table strict acts s c (Refused q) s') (what : c.what ≡ join) (level : ltb c.level 7 ≡ true) (cells : fits_anchor s.cells s.anchor ≡ true) (rows : length s.rows ≡ 16) where
   answer_is : (b : Bool) → ltb c.seat 16 ≡ b → Refused q ≡ (call_effect wear_below table s c (first (test (not b) OutOfRange ∷ []))).answer
   unfolding effect
   answer_is b e =

@@ -4,11 +4,10 @@ use Rattle.std.specs.Option.{option_map}
 use Rattle.basis.specs.declared.refusal.Refusal.{Refusal}
 use Rattle.basis.specs.declared.refusal.Refusal.TheVariants.{OutOfRange, WrongSizes, NotAway}
 use Rattle.basis.specs.declared.answer.Answer.{Answer}
-use Rattle.basis.specs.declared.answer.Answer.TheVariants.{Ok}
-use Rattle.keys.specs.Wear.{wear_below}
+use Rattle.key_types.specs.Wear.{wear_below}
 use Rattle.list_law.specs.Performed.{Ask}
 use Rattle.list_law.specs.Driven.{Driven}
-use Rattle.keys.specs.declared.wear.Wear.{Wear}
+use Rattle.key_types.specs.declared.wear.Wear.{Wear}
 use Rattle.ledger.specs.Tests.{test, first}
 use Rattle.ledger.specs.Ledger.{Call, join}
 use Rattle.list_cells.specs.declared.cell.Cell.{Cell}
@@ -25,7 +24,7 @@ use Rattle.tasks.specs.declared.turn.Marks.{Marks}
 use Rattle.tasks.specs.declared.turn.Seen.{Seen}
 use Rattle.tasks.specs.declared.turn.Task.{Task}
 use Rattle.tasks.specs.declared.turn.Turn.{Turn}
-use Rattle.tasks.specs.Turns.{asked, seat_by, Called}
+use Rattle.tasks.specs.Turns.{what_asked, seat_by, Called}
 
 -- what the index keeps
 abbrev pub state : {S : Type 0} → Station S → State Wear S
@@ -37,7 +36,7 @@ seat d t = seat_by d.host.seat d.cleaner.seat t
 
 -- the call of a turn, at the mask level of the station
 abbrev pub call : {S : Type 0} → Station S → Turn → Call Wear
-call d t = call_of (asked t.ask) (seat d t.task) d.mask.level d.cells d.rows
+call d t = call_of (what_asked t.ask) (seat d t.task) d.mask.level d.cells d.rows
 
 -- the marks of both tasks, as the scheme has them
 pub record Marked {S : Type 0} (table : S → Table) (d : Station S) (m : Marks) : Type 0 where
@@ -68,7 +67,7 @@ Watches {S} table strict acts d (l ∷ ls) d' = (e : Station S) × Watched table
 
 -- what is asked in a line, by host and cleaner at these seats
 abbrev pub asking : ℕ → ℕ → Line → Ask Wear
-asking h k l = record { seat = seat_by h k l.turn.task; level = 0; what = asked l.turn.ask }
+asking h k l = record { seat = seat_by h k l.turn.task; level = 0; what = what_asked l.turn.ask }
 
 -- the same, at the seats of their slips
 abbrev pub ask_in : {S : Type 0} → Station S → Line → Ask Wear
@@ -102,12 +101,12 @@ pub record Begun {S : Type 0} (table : S → Table) (strict : Bool) (acts : Orde
   pub of_cells : lent.cells ≡ map cell_of given
   pub of_scheme : lent.marks ≡ scheme
   pub start : State Wear S
-  pub made : Makes wear_below table strict acts lent w Ok start
-  pub run : Driven wear_below table strict acts (length given) w start (joining h ∷ joining k ∷ []) (Ok ∷ Ok ∷ []) (state d)
+  pub made : Makes wear_below table strict acts lent w Answer.Ok start
+  pub run : Driven wear_below table strict acts (length given) w start (joining h ∷ joining k ∷ []) (Answer.Ok ∷ Answer.Ok ∷ []) (state d)
 
 -- host and cleaner joined an index over the given cells and scheme with window w at these seats and took the turns of these lines, each of
 -- which shows its turn: the answers are those of a lawful run of exactly these calls
-pub record Ran {S : Type 0} (table : S → Table) (strict : Bool) (acts : Order → S → S → Type 0) (given : List (Cell Wear)) (scheme : S) (w h k : ℕ) (ls : List Line) : Type 0 where
+pub record RanTasks {S : Type 0} (table : S → Table) (strict : Bool) (acts : Order → S → S → Type 0) (given : List (Cell Wear)) (scheme : S) (w h k : ℕ) (ls : List Line) : Type 0 where
   pub opened : Station S
   pub begun : Begun table strict acts given scheme w h k opened
   pub seats : (opened.host.seat ≡ h) × (opened.cleaner.seat ≡ k)
@@ -115,4 +114,4 @@ pub record Ran {S : Type 0} (table : S → Table) (strict : Bool) (acts : Order 
   pub watched : Watches table strict acts opened ls last
   pub answers : List Answer
   pub shown : map answer_in ls ≡ map Some answers
-  pub run : Driven wear_below table strict acts (length given) w begun.start (joining h ∷ joining k ∷ map (asking h k) ls) (Ok ∷ Ok ∷ answers) (state last)
+  pub run : Driven wear_below table strict acts (length given) w begun.start (joining h ∷ joining k ∷ map (asking h k) ls) (Answer.Ok ∷ Answer.Ok ∷ answers) (state last)

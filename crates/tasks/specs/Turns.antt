@@ -2,8 +2,8 @@
 use Rattle.std.specs.Prelude.{Bool, ℕ, List, None, Option, codes}
 use Rattle.basis.specs.declared.bounded.Bounded.{Bounded}
 use Rattle.basis.specs.declared.answer.Answer.{Answer}
-use Rattle.keys.specs.declared.wear.Wear.{Wear}
-use Rattle.keys.specs.Wear.{wear_below}
+use Rattle.key_types.specs.declared.wear.Wear.{Wear}
+use Rattle.key_types.specs.Wear.{wear_below}
 use Rattle.marks.specs.Meaning.{Table, Order}
 use Rattle.ledger.specs.Ledger.{What, begin, step, abandon, Call}
 use Rattle.list_law.specs.Call.{State, Did}
@@ -16,10 +16,10 @@ use Rattle.tasks.specs.declared.turn.Task.{Task}
 use Rattle.tasks.specs.declared.turn.Task.TheVariants.{Host, Cleaner}
 
 -- what is asked
-abbrev pub asked : Ask → What Wear
-asked (ask.Begin k x) = begin k x
-asked ask.Step = step
-asked ask.Abandon = abandon
+abbrev pub what_asked : Ask → What Wear
+what_asked (ask.Begin k x) = begin k x
+what_asked ask.Step = step
+what_asked ask.Abandon = abandon
 
 -- a call on wear keys led from s to s' with this answer, and the run goes on with it and is lawful: what CalledOn says of an index, said of its states
 pub record Called {M : Type 0} (table : M → Table) (strict : Bool) (acts : Order → M → M → Type 0) (s : State Wear M) (c : Call Wear) (a : Answer) (s' : State Wear M) : Type 0 where

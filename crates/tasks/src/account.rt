@@ -1,7 +1,7 @@
 // The account of the turns, as text.
 use crate::turn::{Ask, Line, Seen, Task};
 use basis::bounded::Place;
-use keys::wear::Wear;
+use key_types::wear::Wear;
 use list_cells::cell::Cell;
 use std::{io, iter};
 

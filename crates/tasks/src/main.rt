@@ -2,7 +2,7 @@
 #![tactic(auto)]
 
 ghost use Rattle.std.specs.Prelude.{◌≡◌, map, length, Some, MatchResult};
-ghost use Rattle.tasks.specs.Stations.{not_opened, Ran};
+ghost use Rattle.tasks.specs.Stations.{not_opened, RanTasks};
 
 mod account;
 mod plan;
@@ -15,10 +15,10 @@ use crate::station::Station;
 use crate::turn::Line;
 use basis::bounded::BankBit;
 use basis::refusal::Refusal;
-use keys::wear::Wear;
+use key_types::wear::Wear;
 use list_cells::cell::Cell;
-use marks::full::Full;
-use marks::pair::Pair;
+use schemes::full::Full;
+use schemes::pair::Pair;
 use marks::scheme::Scheme;
 use std::io;
 
@@ -32,7 +32,7 @@ fn run_tasks<S: Scheme + Drop>(
     lines: &mut [Line],
 ) -> Result<(), Refusal>
     ensures turns { map (λ (l : Line). l.turn) lines.new ≡ map (λ (l : Line). l.turn) lines.old }
-    ensures ran { MatchResult result (λ _. Ran S.Scheme.table S.Scheme.strict S.Scheme.acts cells scheme window host cleaner lines.new) (λ e. (lines.new ≡ lines.old) × (not_opened (length cells) window host cleaner ≡ Some e)) }
+    ensures ran { MatchResult result (λ _. RanTasks S.Scheme.table S.Scheme.strict S.Scheme.acts cells scheme window host cleaner lines.new) (λ e. (lines.new ≡ lines.old) × (not_opened (length cells) window host cleaner ≡ Some e)) }
 {
     let mut station = Station::open(cells, scheme, window, host, cleaner)?;
     station.play(lines);

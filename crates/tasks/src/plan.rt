@@ -1,11 +1,11 @@
 // The turns of the two tasks, in order.
 ghost use Rattle.std.specs.Prelude.{◌≡◌};
-ghost use Rattle.keys.specs.Wear.{wear};
+ghost use Rattle.key_types.specs.Wear.{wear};
 ghost use Rattle.tasks.specs.Turns.{untaken};
 
 use crate::turn::{Ask, Line, Task};
 use basis::kind::Kind;
-use keys::wear::Wear;
+use key_types::wear::Wear;
 
 // The lines of a task, by what it asks.
 impl Task {

@@ -1,9 +1,9 @@
 // An index with two tasks at it, each with a slip in hand.
 ghost use Rattle.std.specs.Prelude.{◌≡◌, ◌<◌};
-ghost use Rattle.keys.specs.Wear.{wear_below};
+ghost use Rattle.key_types.specs.Wear.{wear_below};
 ghost use Rattle.list_window.specs.Applied.{state_of};
 ghost use Rattle.list.specs.Calls.{CalledOn};
-ghost use Rattle.tasks.specs.Turns.{asked, seat_by};
+ghost use Rattle.tasks.specs.Turns.{what_asked, seat_by};
 ghost use Rattle.tasks.specs.Manned.{Manned};
 ghost use Rattle.marks.specs.Marks.{numbered};
 
@@ -12,7 +12,7 @@ use basis::answer::Answer;
 use basis::bounded::{Place, Seat};
 use basis::mask::Mask;
 use basis::refusal::Refusal;
-use keys::wear::Wear;
+use key_types::wear::Wear;
 use list::slip::Slip;
 use list_cells::cell::{Anchor, Cell};
 use list_making::making::make;
@@ -34,7 +34,7 @@ pub struct Station<S> {
 
 // The call that is asked, made by showing a slip.
 fn show<S: Scheme>(slip: &Slip, index: &mut Index<'_, Wear, S>, mask: &mut Mask, ask: Ask) -> Answer
-    ensures called { CalledOn wear_below S.Scheme.table S.Scheme.strict S.Scheme.acts index.old (asked ask) slip.now.seat mask.old.level result index.new }
+    ensures called { CalledOn wear_below S.Scheme.table S.Scheme.strict S.Scheme.acts index.old (what_asked ask) slip.now.seat mask.old.level result index.new }
     ensures level { mask.new.level ≡ mask.old.level }
 {
     match ask {

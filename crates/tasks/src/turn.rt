@@ -6,7 +6,7 @@ ghost use Rattle.tasks.specs.Turns.{other_task, task_word, mark_by, untaken};
 use basis::answer::Answer;
 use basis::bounded::Place;
 use basis::kind::Kind;
-use keys::wear::Wear;
+use key_types::wear::Wear;
 use list_cells::cell::Cell;
 use std::fmt;
 

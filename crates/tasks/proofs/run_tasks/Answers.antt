@@ -1,6 +1,6 @@
 -- The turns go on with the run that the two joins began.
 use Rattle.std.proofs.Common.{◌∷◌, map, length, refl}
-use Rattle.keys.specs.Wear.{wear_below}
+use Rattle.key_types.specs.Wear.{wear_below}
 use Rattle.list_law.proofs.Driven.{driven_as}
 use Rattle.tasks.specs.Stations.{asking, joining}
 use Rattle.tasks.proofs.run_tasks.Goals as goal

@@ -13,7 +13,7 @@ use Rattle.list.proofs.call.make_call.Goals as goal
 pub returns-in-Err-clause-called : goal.returns-in-Err-clause-called
 returns-in-Err-clause-called g c =
     let key = g.met.K.Key in
-    let order : Total g.K.Key.below = record { irreflexive = key.irreflexive; transitive = key.transitive; same_transitive = key.same_transitive } in
+    let order : Total g.K.Key.below = key.order in
     let index = c.args.index.now in
     let lent = lent_state index in
     let call = call_on index (what_of c.args.request) c.args.seat c.args.mask.now.level in
@@ -27,7 +27,7 @@ returns-in-Err-clause-called g c =
 pub returns-clause-called : goal.returns-clause-called
 returns-clause-called g c =
     let key = g.met.K.Key in
-    let order : Total g.K.Key.below = record { irreflexive = key.irreflexive; transitive = key.transitive; same_transitive = key.same_transitive } in
+    let order : Total g.K.Key.below = key.order in
     let index = c.args.index.now in
     let lent = lent_state index in
     let call = call_on index (what_of c.args.request) c.args.seat c.args.mask.now.level in

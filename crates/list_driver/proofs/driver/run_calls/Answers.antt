@@ -2,7 +2,8 @@
 use Rattle.std.proofs.Common.{◌≡◌, ℕ, Bool, true, false, cond, ◌&&◌, List, map, length, refl, sym, ap, ◌∙◌, rules}
 use Rattle.std.proofs.lemmas.List.{length-map}
 use Rattle.std.proofs.lemmas.Bool.{both_ways, cond-true, cond-false, eq-eqb}
-use Rattle.basis.specs.declared.answer.Answer.TheVariants.{Ok, Refused}
+use Rattle.basis.specs.declared.answer.Answer.TheVariants.{Refused}
+use Rattle.basis.specs.declared.answer.Answer.{Answer}
 use Rattle.basis.specs.declared.refusal.Refusal.{Refusal}
 use Rattle.basis.specs.declared.refusal.Refusal.TheVariants.{WrongSizes}
 use Rattle.list_law.specs.Making.{makes}
@@ -18,11 +19,11 @@ use Rattle.list_making.proofs.Makes.{viewed}
 use Rattle.list_driver.proofs.driver.run_calls.Goals as goal
 
 -- what the answer of a making says of the sizes
-took : (b : Bool) → Ok ≡ cond b Ok (Refused WrongSizes) → b ≡ true
+took : (b : Bool) → Answer.Ok ≡ cond b Answer.Ok (Refused WrongSizes) → b ≡ true
 took true e = refl
 took false e = absurd (clash (cc))
 
-refused : (b : Bool) (q : Refusal) → Refused q ≡ cond b Ok (Refused WrongSizes) → b ≡ false
+refused : (b : Bool) (q : Refusal) → Refused q ≡ cond b Answer.Ok (Refused WrongSizes) → b ≡ false
 refused true q e = absurd (clash (cc))
 refused false q e = refl
 

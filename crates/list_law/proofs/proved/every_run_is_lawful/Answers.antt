@@ -4,5 +4,5 @@ use Rattle.list_law.proofs.proved.every_run_is_lawful.Goals as goal
 
 pub returns : goal.returns
 returns g c =
-    law g.K.Key.below (record { irreflexive = g.met.K.Key.irreflexive; transitive = g.met.K.Key.transitive; same_transitive = g.met.K.Key.same_transitive })
+    law g.K.Key.below g.met.K.Key.order
     g.S.Scheme.table g.S.Scheme.strict g.S.Scheme.acts

@@ -5,5 +5,5 @@ use Rattle.list_law.proofs.proved.every_run_over_plain_marks_is_lawful.Goals as 
 
 pub returns : goal.returns
 returns g c =
-    λ keeps. law g.K.Key.below (record { irreflexive = g.met.K.Key.irreflexive; transitive = g.met.K.Key.transitive; same_transitive = g.met.K.Key.same_transitive })
+    λ keeps. law g.K.Key.below g.met.K.Key.order
     (λ m. m) keeps unconstrained

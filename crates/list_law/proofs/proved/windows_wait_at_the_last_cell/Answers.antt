@@ -4,5 +4,5 @@ use Rattle.list_law.proofs.proved.windows_wait_at_the_last_cell.Goals as goal
 
 pub returns : goal.returns
 returns g c =
-    windows g.K.Key.below (record { irreflexive = g.met.K.Key.irreflexive; transitive = g.met.K.Key.transitive; same_transitive = g.met.K.Key.same_transitive })
+    windows g.K.Key.below g.met.K.Key.order
     g.S.Scheme.table g.S.Scheme.strict g.S.Scheme.acts

@@ -19,7 +19,7 @@ first_free (x ∷ xs) h = refl
 pub returns-clause-made : goal.returns-clause-made
 returns-clause-made g c =
     let key = g.met.K.Key in
-    let order : Total g.K.Key.below = record { irreflexive = key.irreflexive; transitive = key.transitive; same_transitive = key.same_transitive } in
+    let order : Total g.K.Key.below = key.order in
     let index = c.args.index.now in
     let cells = index.cells.now in
     let rows = index.rows.now in

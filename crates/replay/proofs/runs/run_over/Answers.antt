@@ -6,7 +6,7 @@ use Rattle.list_cells.specs.Views.{cell_of}
 use Rattle.list_window.specs.Rows.{row_of}
 use Rattle.list_law.specs.Making.{makes}
 use Rattle.list_driver.specs.Asks.{ask_of}
-use Rattle.replay.specs.Runs.{Over}
+use Rattle.replay.specs.Runs.{MadeAndRun}
 use Rattle.replay.proofs.Ran.{accepted, refused, over}
 use Rattle.replay.proofs.runs.run_over.Goals as goal
 
@@ -20,7 +20,7 @@ returns g c =
     let cells = length-map index.cells.now cell_of in
     let as_many = length-map c.args.asks.now ask_of ∙ c.requires in
     let ran = c.in_ok-run_calls.ensures.ran in
-    subst (λ (x : List _ × _). (makes (length x.0) 16 c.args.window ≡ true) × Over scheme.table scheme.strict scheme.acts (map cell_of x.0) c.args.window x.1 (map ask_of c.args.asks.now) c.run_calls.new.answers)
+    subst (λ (x : List _ × _). (makes (length x.0) 16 c.args.window ≡ true) × MadeAndRun scheme.table scheme.strict scheme.acts (map cell_of x.0) c.args.window x.1 (map ask_of c.args.asks.now) c.run_calls.new.answers)
     (λ i. (there.cells_now i, there.scheme_now i))
     (accepted scheme.table scheme.strict scheme.acts _ _ _ _ _ _ _ _ _ ran sixteen rows cells as_many refl, over scheme.table scheme.strict scheme.acts _ _ _ _ _ _ _ _ _ ran sixteen rows cells as_many refl)
 

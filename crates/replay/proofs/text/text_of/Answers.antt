@@ -1,9 +1,10 @@
 -- No record, a setup that is refused, and a setup that is accepted.
 use Rattle.std.proofs.Common.{List, ◌∷◌, ◌++◌, Some, map, vec_items, string_bytes, sym, ap, ◌∙◌, append-nil, subst}
 use Rattle.std.proofs.lemmas.Result.{IfOk-weaker, MatchResult-at_ok, MatchResult-at_err}
-use Rattle.basis.specs.declared.answer.Answer.TheVariants.{Ok, Refused}
+use Rattle.basis.specs.declared.answer.Answer.TheVariants.{Refused}
+use Rattle.basis.specs.declared.answer.Answer.{Answer}
 use Rattle.basis.specs.declared.refusal.Refusal.TheVariants.{WrongSizes}
-use Rattle.keys.specs.declared.sector.Sector.{Sector}
+use Rattle.key_types.specs.declared.sector.Sector.{Sector}
 use Rattle.list_law.specs.Performed.{Ask}
 use Rattle.list_driver.specs.Asks.{ask_of}
 use Rattle.schedule.specs.Lines.{line_of, lines_from}
@@ -30,7 +31,7 @@ returns-in-Ok c =
     let answers = vec_items c.in-Ok.answers in
     let asked = subst (λ (l : List (Ask Sector)). Answered s.scheme s.cells s.window l answers) (ap (map ask_of) c.as_slice.ensures.value) (MatchResult-at_ok _ _ c.in-Ok.answers c.in-Ok.is c.in_ok-answers.ensures) in
     IfOk-weaker c.text_of_answers.result _ _
-    (λ text e. told_accepted c.args.calls.setup s.scheme s.cells s.window is asks stop (string_bytes text) answers asked (e ∙ ap (λ l. lines_from 1 (Ok ∷ (l ++ stop))) c.as_slice-in-Ok.ensures.value))
+    (λ text e. told_accepted c.args.calls.setup s.scheme s.cells s.window is asks stop (string_bytes text) answers asked (e ∙ ap (λ l. lines_from 1 (Answer.Ok ∷ (l ++ stop))) c.as_slice-in-Ok.ensures.value))
     c.text_of_answers.ensures
 
 pub returns-in-Err : goal.returns-in-Err

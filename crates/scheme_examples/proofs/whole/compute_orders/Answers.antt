@@ -1,7 +1,7 @@
-use Rattle.marks.specs.declared.version.Version.{Version}
-use Rattle.marks.specs.Full.{full_state, full_act}
-use Rattle.marks.specs.Owner.{owner_state, owner_act}
-use Rattle.marks.specs.Version.{version_state, version_act}
+use Rattle.schemes.specs.declared.version.Version.{Version}
+use Rattle.schemes.specs.Full.{full_state, full_act}
+use Rattle.schemes.specs.Owner.{owner_state, owner_act}
+use Rattle.schemes.specs.Version.{version_state, version_act}
 use Rattle.marks.proofs.Computed.{along_computes}
 use Rattle.scheme_examples.proofs.whole.compute_orders.Goals as goal
 

@@ -1,7 +1,7 @@
 -- Where a record is handed out, the definition hands out the same one, and where it is refused, the definition refuses it.
 use Rattle.std.proofs.Common.{◌≡◌, ◌-◌, ◌∷◌, length, codes, refl, sym, ap, ◌∙◌, arith, rules}
 use Rattle.std.proofs.lemmas.Result.{err_from_is_err_and}
-use Rattle.basis.specs.Told.{told}
+use Rattle.basis.specs.Cases.{case_of}
 use Rattle.schedule.specs.Reading.{due, content_due, left_after, first_after}
 use Rattle.schedule.proofs.Cuts.{hands, refuses}
 use Rattle.schedule.proofs.reader.Reader.next.Goals as goal
@@ -23,7 +23,7 @@ returns c =
     let offset : c.saturating_sub-offset.result ≡ reader.total - length left - length bytes = omega arith in
     let moved = c.moved.ensures in
     record {
-      value = ap (λ n. told 0 (codes "record") (n ∷ bytes)) offset ∙ sym (ap due is);
+      value = ap (λ n. case_of 0 (codes "record") (n ∷ bytes)) offset ∙ sym (ap due is);
       content = sym (ap content_due is);
       rest = moved.rest ∙ sym (ap (λ a. left_after a reader.rest.now) is);
       total = moved.total;

@@ -2,7 +2,7 @@
 use Rattle.std.proofs.Common.{◌≡◌, true, ltb, ◌≢◌, length, map, Some, sym, refl, ap, ◌∙◌, rules, inl}
 use Rattle.std.proofs.lemmas.Bool.{lt-ltb}
 use Rattle.std.proofs.lemmas.List.{length-map}
-use Rattle.keys.specs.Wear.{wear_below}
+use Rattle.key_types.specs.Wear.{wear_below}
 use Rattle.list_law.specs.Call.{away, row_at}
 use Rattle.list_law.specs.Making.{makes}
 use Rattle.list_law.proofs.Driven.{driven_none, driven_at}

@@ -1,0 +1,2 @@
+pub mod Sector
+pub mod Wear

@@ -1,9 +1,0 @@
-use Rattle.std.proofs.Common.{rules}
-use Rattle.marks.proofs.VersionLaws.{release_means, release_acts, release_sound}
-use Rattle.marks.proofs.version.VersionScheme.release.Goals as goal
-
-pub invariant_of-self : goal.invariant_of-self
-invariant_of-self c = search (rules, release_sound)
-
-pub returns : goal.returns
-returns c = search (rules, release_means, release_acts)

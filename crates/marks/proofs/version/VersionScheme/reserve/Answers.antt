@@ -1,9 +1,0 @@
-use Rattle.std.proofs.Common.{rules}
-use Rattle.marks.proofs.VersionLaws.{reserve_means, reserve_acts, reserve_sound}
-use Rattle.marks.proofs.version.VersionScheme.reserve.Goals as goal
-
-pub invariant_of-self : goal.invariant_of-self
-invariant_of-self c = search (rules, reserve_sound)
-
-pub returns : goal.returns
-returns c = search (rules, reserve_means, reserve_acts)
