@@ -1,7 +1,7 @@
 // Sectors as keys.
 ghost use Rattle.std.specs.Prelude.{◌≡◌};
 ghost use Rattle.key_types.specs.Sector.{sector_below};
-ghost use Rattle.key_types.proofs.Orders.{sector_total};
+ghost use Rattle.std.proofs.Common.{rules};
 
 use keys::key::Key;
 
@@ -15,7 +15,7 @@ pub struct Sector {
 impl Key for Sector {
     ghost below = { sector_below };
 
-    ghost order = { sector_total };
+    ghost order = { record { irreflexive = Prim.search rules; transitive = Prim.search rules; same_transitive = Prim.search rules } };
 
     fn is_below(self, other: Sector) -> bool {
         self < other

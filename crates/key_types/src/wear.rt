@@ -2,7 +2,7 @@
 ghost use Rattle.std.specs.Prelude.{◌≡◌, ◌<◌, ◌≤◌, MatchResult};
 ghost use Rattle.basis.specs.Refusals.{refusal};
 ghost use Rattle.key_types.specs.Wear.{wear_below, wear};
-ghost use Rattle.key_types.proofs.Orders.{wear_total};
+ghost use Rattle.std.proofs.Common.{rules};
 
 use keys::key::Key;
 use basis::refusal::Refusal;
@@ -32,7 +32,7 @@ impl Wear {
 impl Key for Wear {
     ghost below = { wear_below };
 
-    ghost order = { wear_total };
+    ghost order = { record { irreflexive = Prim.search rules; transitive = Prim.search rules; same_transitive = Prim.search rules } };
 
     fn is_below(self, other: Wear) -> bool {
         self < other

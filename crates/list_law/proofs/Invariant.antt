@@ -62,10 +62,10 @@ module _ {K : Type 0} (a : Ledger K) (t : ℕ) (r : plain.Row K) where
   seated_other u h = ap (λ b. cond b r (a.row u)) (ne_eqb u t h)
 
 module _ {K : Type 0} (rs : List (Row K)) (t : ℕ) (r : Row K) where
-  pub row_own : t < length rs → row_at (members rs t r) t ≡ r
+  pub row_own : t < length rs → row_at (set rs t r) t ≡ r
   row_own h = ap row_or (nth_set_same rs t r (nth_there rs t h).1)
 
-  pub row_other : (u : ℕ) → u ≢ t → row_at (members rs t r) u ≡ row_at rs u
+  pub row_other : (u : ℕ) → u ≢ t → row_at (set rs t r) u ≡ row_at rs u
   row_other u h = ap row_or (nth_set_other rs t u r h)
 
 abbrev pub is_running : {K : Type 0} → Row K → Bool

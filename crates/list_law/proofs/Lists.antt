@@ -14,12 +14,12 @@ none_some h = clash (cc)
 pub some_inj : {X : Type 0} {x y : X} → Some x ≡ Some y → x ≡ y
 some_inj h = cc
 
-pub nth_set_same : {X : Type 0} (xs : List X) (i : ℕ) (a : X) {y : X} → slice_get xs i ≡ Some y → slice_get (members xs i a) i ≡ Some a
+pub nth_set_same : {X : Type 0} (xs : List X) (i : ℕ) (a : X) {y : X} → slice_get xs i ≡ Some y → slice_get (set xs i a) i ≡ Some a
 nth_set_same [] i a h = absurd (none_some h)
 nth_set_same (x ∷ xs) zero a h = refl
 nth_set_same (x ∷ xs) (suc i) a h = nth_set_same xs i a h
 
-pub nth_set_other : {X : Type 0} (xs : List X) (i j : ℕ) (a : X) → j ≢ i → slice_get (members xs i a) j ≡ slice_get xs j
+pub nth_set_other : {X : Type 0} (xs : List X) (i j : ℕ) (a : X) → j ≢ i → slice_get (set xs i a) j ≡ slice_get xs j
 nth_set_other [] i j a h = refl
 nth_set_other (x ∷ xs) zero zero a h = absurd (h refl)
 nth_set_other (x ∷ xs) zero (suc j) a h = refl

@@ -81,7 +81,7 @@ impl<'a> Reader<'a> {
 
     // The offset of what is followed by so many bytes.
     fn offset_before(self, more: usize) -> usize
-        ensures { result ≡ self.read_record.total - more }
+        ensures { result ≡ self.entry.total - more }
     {
         self.total.saturating_sub(more)
     }
@@ -89,7 +89,7 @@ impl<'a> Reader<'a> {
     // The reader once a record was handed out, with these bytes left.
     fn moved(self, left: &'a [u8]) -> Reader<'a>
         ensures rest { result.rest.now ≡ left.now }
-        ensures total { result.total ≡ self.read_record.total }
+        ensures total { result.total ≡ self.entry.total }
         ensures first { result.first ≡ false }
     {
         Reader {

@@ -1,2 +1,2 @@
 pub mod Worked
-pub mod Told
+pub mod States

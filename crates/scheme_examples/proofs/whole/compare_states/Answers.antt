@@ -1,4 +1,4 @@
-use Rattle.scheme_examples.proofs.Told.{states_tell_all}
+use Rattle.scheme_examples.proofs.States.{states_tell_all}
 use Rattle.scheme_examples.proofs.whole.compare_states.Goals as goal
 
 pub returns : goal.returns
