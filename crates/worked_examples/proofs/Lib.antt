@@ -1,2 +1,2 @@
 pub mod Worked
-pub mod Examples
+pub mod Facts

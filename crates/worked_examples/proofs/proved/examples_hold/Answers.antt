@@ -1,4 +1,4 @@
-use Rattle.worked_examples.proofs.Examples.{examples}
+use Rattle.worked_examples.proofs.Facts.{examples}
 use Rattle.worked_examples.proofs.proved.examples_hold.Goals as goal
 
 pub returns : goal.returns
