@@ -1,5 +1,5 @@
 // What a call answers.
-ghost use Rattle.std.specs.Prelude.{◌≡◌, Some};
+ghost use Rattle.std.specs.Prelude.{◌≡◌, Some, option_to_list};
 ghost use Rattle.basis.specs.Answers.{answer, settled, spoken};
 
 use crate::refusal::Refusal;
@@ -30,6 +30,30 @@ impl From<Result<(), Refusal>> for Answer {
 }
 
 impl Answer {
+    // The number of this case, 0 to 5.
+    pub fn number(self) -> u8
+        ensures { result ≡ (answer self).number }
+    {
+        match self {
+            Answer::No => 0,
+            Answer::Yes => 1,
+            Answer::Ok => 2,
+            Answer::Wait => 3,
+            Answer::Full => 4,
+            Answer::Refused(_) => 5,
+        }
+    }
+
+    // What this case carries: the number of a refusal, and else nothing.
+    pub fn value(self) -> Option<u8>
+        ensures { option_to_list result ≡ (answer self).values }
+    {
+        match self {
+            Answer::Refused(refusal) => Some(u8::from(refusal)),
+            _ => None,
+        }
+    }
+
     // The word that a line prints for this answer.
     pub fn word(self) -> &'static str
         ensures { result.now ≡ (answer self).word }
