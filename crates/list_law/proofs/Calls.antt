@@ -1,6 +1,6 @@
 -- Every call, by row and call together; and calls that were lent other cells or rows. Assumes nothing.
-use Rattle.std.proofs.Common.{◌≡◌, ℕ, ◌<◌, Bool, true, false, ◌≢◌, List, [], ◌∷◌, length, Some, None, Option, sym, refl, ap, ◌∙◌, subst, inl, inr}
-use Rattle.std.proofs.lemmas.Bool.{both_ways, eq-eqb}
+use Rattle.std.proofs.Common.{◌≡◌, ℕ, ◌<◌, Bool, true, false, ◌≢◌, ◌⊎◌, List, [], ◌∷◌, length, Some, None, Option, sym, refl, ap, ◌∙◌, subst, inl, inr}
+use Rattle.std.proofs.lemmas.Bool.{both_ways, cases_eq, eq-eqb}
 use Rattle.basis.specs.declared.kind.Kind.{Kind}
 use Rattle.basis.specs.declared.refusal.Refusal.{Refusal}
 use Rattle.basis.specs.declared.refusal.Refusal.TheVariants.{NotAway, Away, AlreadyRunning, NotRunning, BadLink}
@@ -21,7 +21,7 @@ use Rattle.list_law.proofs.Invariant.{row_for, Placed, Inv, is_running}
 use Rattle.list_law.proofs.Refusals as first-tests
 use Rattle.list_law.proofs.Refusals.{row_tests}
 use Rattle.list_law.proofs.Marks.{released}
-use Rattle.list_law.proofs.Elsewhere.{turn_looks, with_memory, elsewhere, effect_alike}
+use Rattle.list_law.proofs.Elsewhere.{turn_looks, cells_exchanged}
 use Rattle.list_law.proofs.Called.{Called, called_refused, called_outcome}
 use Rattle.list_law.proofs.Outcomes.{answer_is, told_is, marks_is, unchanged, plain_outcome}
 use Rattle.list_law.proofs.Window.{called_window}
@@ -149,67 +149,53 @@ module _ {K M : Type 0} (below : K → K → Bool) (order : Total below) (table 
       called_refused below table strict acts n w a s e s' v (λ i. record { cells = cells' i; rows = rows' i; anchor = anchor' i; marks = marks' i }) r
       (d.did.answer ∙ ap (λ (x : Effect K). x.answer) is) q.1 (d.told ∙ ap (λ (x : Effect K). x.told) is) (ap (ruled below a e.call e.told) q.0)
 
-  -- past the first tests a call does what it would do on the index's own cells and rows
-  module _ (none : first (early_refusals d.lent e.call) ≡ None) where
-    passed : first-tests.Passed below table n w a s v e.call d.lent d.lent_anchor d.cells_number d.rows_number
-    passed = first-tests.passed below table n w a s v e.call d.lent d.lent_anchor d.cells_number d.rows_number none
+  passed : first (early_refusals d.lent e.call) ≡ None → first-tests.Passed below table n w a s v e.call d.lent d.lent_anchor d.cells_number d.rows_number
+  passed = first-tests.passed below table n w a s v e.call d.lent d.lent_anchor d.cells_number d.rows_number
 
-    rows_own : (d.lent.rows ≡ s.rows) × (s'.rows ≡ d.left.rows)
-    unfolding effect
-    rows_own =
-        own_lent (looks_at_rows e.answer) s.rows s'.rows d.lent.rows d.left.rows d.rows passed.rows_fit
-        (ap looks_at_rows (d.did.answer ∙ ap (λ o. (call_effect below table d.lent e.call o).answer) none)
-        ∙ turn_looks below (memory_of d.lent) e.call.seat d.lent.anchor.window (table d.lent.marks e.call.seat) (row_at d.lent.rows e.call.seat) e.call.what)
+  -- past the first tests each answer looks at the row, so that the rows are the index's own
+  rows_own : first (early_refusals d.lent e.call) ≡ None → (d.lent.rows ≡ s.rows) × (s'.rows ≡ d.left.rows)
+  unfolding effect
+  rows_own none =
+      own_lent (looks_at_rows e.answer) s.rows s'.rows d.lent.rows d.left.rows d.rows (passed none).rows_fit
+      (ap looks_at_rows (d.did.answer ∙ ap (λ o. (call_effect below table d.lent e.call o).answer) none)
+      ∙ turn_looks below (memory_of d.lent) e.call.seat d.lent.anchor.window (table d.lent.marks e.call.seat) (row_at d.lent.rows e.call.seat) e.call.what)
 
-    record DidOwn : Type 0 where
-      did : Did below table strict acts s e.call e.answer s'
-      told : e.told ≡ (effect below table s e.call).told
-
-    -- the cells are the index's own
-    on_mine : d.lent.cells ≡ s.cells → s'.cells ≡ d.left.cells → DidOwn
-    on_mine mine is =
-        let lent_is : d.lent ≡ s = λ i. record { cells = mine i; rows = rows_own.0 i; anchor = d.lent_anchor i; marks = d.lent_marks i } in
-        let left_is : d.left ≡ s' = λ i. record { cells = sym is i; rows = sym rows_own.1 i; anchor = sym d.anchor i; marks = sym d.marks i } in
-        record {
-          did = subst (λ z. Did below table strict acts z e.call e.answer s') lent_is (subst (Did below table strict acts d.lent e.call e.answer) left_is d.did);
-          told = d.told ∙ ap (λ z. (effect below table z e.call).told) lent_is;
-        }
-
-    -- they are others, and the answer looks at none
-    on_others : length d.lent.cells ≡ length s.cells → looks_at_cells e.answer ≡ false → s'.cells ≡ s.cells → DidOwn
-    on_others fits unseen is =
-        let f : Effect K = effect below table d.lent e.call in
-        let alike = effect_alike below table d.lent s.cells e.call (sym fits) (ap looks_at_cells (sym d.did.answer) ∙ unseen) in
-        let here : elsewhere below table d.lent s.cells e.call (sym fits) ≡ s = λ i. record { cells = s.cells; rows = rows_own.0 i; anchor = d.lent_anchor i; marks = d.lent_marks i } in
-        let eff : effect below table s e.call ≡ with_memory (memory_of s) f = subst (λ z. effect below table z e.call ≡ with_memory (memory_of z) f) here alike.0 in
-        record {
-          did = record {
-            answer = d.did.answer ∙ sym (ap (λ (x : Effect K). x.answer) eff);
-            cells = is ∙ sym (ap (λ (x : Effect K). x.memory.cells) eff);
-            anchor = d.anchor ∙ d.did.anchor ∙ ap (anchor_after d.lent.anchor) alike.1 ∙ d.lent_anchor ∙ sym (ap (λ (x : Effect K). anchor_after s.anchor x.memory) eff);
-            rows = rows_own.1 ∙ d.did.rows ∙ ap (λ rs. rows_after rs e.call.seat f.row) rows_own.0 ∙ sym (ap (λ (x : Effect K). rows_after s.rows e.call.seat x.row) eff);
-            marks = subst (λ (x : Effect K). Along (Obeys table strict acts) x.orders s.marks s'.marks) (sym eff)
-                (subst (λ z. Along (Obeys table strict acts) f.orders z s'.marks) d.lent_marks (subst (Along (Obeys table strict acts) f.orders d.lent.marks) (sym d.marks) d.did.marks));
-          };
-          told = d.told ∙ sym (ap (λ (x : Effect K). x.told) eff);
-        }
-
-    did_own : Lent (looks_at_cells e.answer) s.cells s'.cells d.lent.cells d.left.cells → DidOwn
-    did_own (inl mine, is) = on_mine mine is
-    did_own (inr (inl apart), is) = absurd (apart passed.cells_fit)
-    did_own (inr (inr unseen), is) = on_others passed.cells_fit unseen is
-
-    tests_own : first (early_refusals s e.call) ≡ None
-    tests_own =
-        first-tests.tests_alike s d.lent e.call (sym passed.cells_fit) (sym d.lent_anchor) (sym passed.rows_fit) ∙ none
-
-    performed : Called below table strict acts n w a s e s'
-    performed = let own = did_own d.cells in called_own below order table strict acts n w a s e s' v passed.seat own.did own.told tests_own passed.ledger
-
-  -- every call keeps the invariant, answers as the ledger, and waits by the rule
-  pub called : Called below table strict acts n w a s e s'
-  called = go (first (early_refusals d.lent e.call)) refl
+  -- a call on the index's own cells
+  pub on_own : d.lent.cells ≡ s.cells → s'.cells ≡ d.left.cells → Called below table strict acts n w a s e s'
+  on_own mine is = go (first (early_refusals d.lent e.call)) refl
     where
       go : (o : Option Refusal) → first (early_refusals d.lent e.call) ≡ o → Called below table strict acts n w a s e s'
       go (Some r) h = refused_early r h
-      go None h = performed h
+      go None h =
+          let p = passed h in
+          let rows = rows_own h in
+          let lent_is : d.lent ≡ s = λ i. record { cells = mine i; rows = rows.0 i; anchor = d.lent_anchor i; marks = d.lent_marks i } in
+          let left_is : d.left ≡ s' = λ i. record { cells = sym is i; rows = sym rows.1 i; anchor = sym d.anchor i; marks = sym d.marks i } in
+          called_own below order table strict acts n w a s e s' v p.seat
+          (subst (λ z. Did below table strict acts z e.call e.answer s') lent_is (subst (Did below table strict acts d.lent e.call e.answer) left_is d.did))
+          (d.told ∙ ap (λ z. (effect below table z e.call).told) lent_is)
+          (ap (λ z. first (early_refusals z e.call)) (sym lent_is) ∙ h)
+          p.ledger
+
+  -- a call on cells of another number
+  pub on_wrong_number : length d.lent.cells ≢ length s.cells → Called below table strict acts n w a s e s'
+  on_wrong_number apart = go (first (early_refusals d.lent e.call)) refl
+    where
+      go : (o : Option Refusal) → first (early_refusals d.lent e.call) ≡ o → Called below table strict acts n w a s e s'
+      go (Some r) h = refused_early r h
+      go None h = absurd (apart (passed h).cells_fit)
+
+-- every call keeps the invariant, answers as the ledger, and waits by the rule
+pub called : {K M : Type 0} (below : K → K → Bool) → Total below → (table : M → Table) (strict : Bool) (acts : Order → M → M → Type 0) (n w : ℕ) (a : Ledger K) (s : State K M) (e : Event K) (s' : State K M)
+    → Inv below table n w a s → Next below table strict acts s e s' → Called below table strict acts n w a s e s'
+called {K} {M} below order table strict acts n w a s e s' v d = by d.cells (cases_eq (length d.lent.cells) (length s.cells))
+  where
+    by : Lent (looks_at_cells e.answer) s.cells s'.cells d.lent.cells d.left.cells → (length d.lent.cells ≡ length s.cells) ⊎ (length d.lent.cells ≢ length s.cells)
+        → Called below table strict acts n w a s e s'
+    by (inl mine, is) long = on_own below order table strict acts n w a s e s' v d mine is
+    by (inr other, is) (inr apart) = on_wrong_number below order table strict acts n w a s e s' v d apart
+    by (inr (inl apart), is) (inl fits) = absurd (apart fits)
+    by (inr (inr unseen), is) (inl fits) =
+        -- the answer looks at no cell: the call might have been lent the index's own
+        let mine = cells_exchanged below table strict acts s e s' d unseen s.cells (sym fits) in
+        on_own below order table strict acts n w a s e s' v mine.0 mine.1 (is ∙ sym mine.2)
