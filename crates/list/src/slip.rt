@@ -4,7 +4,7 @@ ghost use Rattle.std.specs.Prelude.{◌≡◌, IfOk, IfErr};
 ghost use Rattle.list_window.specs.Turns.{what_of};
 ghost use Rattle.basis.specs.Answers.{settled};
 ghost use Rattle.list.specs.Calls.{CalledOn};
-ghost use Rattle.list.specs.Slips.{left};
+ghost use Rattle.list.specs.Slips.{left, join_case, join_due, leave_case, leave_due};
 
 use crate::calls;
 use basis::answer::Answer;
@@ -43,6 +43,7 @@ impl Slip {
     ) -> Result<Slip, Refusal>
         ensures called { CalledOn K.Key.below S.Scheme.table S.Scheme.strict S.Scheme.acts index.old (what_of Request.Join) seat mask.old.level (settled result) index.new }
         ensures level { mask.new.level ≡ mask.old.level }
+        ensures case { join_case result ≡ join_due seat (settled result) }
         ensures seat { IfOk result (λ slip. slip.seat ≡ seat) }
     {
         calls::join(index, mask, seat)?;
@@ -91,6 +92,7 @@ impl Slip {
     ) -> Result<(), RefusedLeave>
         ensures called { CalledOn K.Key.below S.Scheme.table S.Scheme.strict S.Scheme.acts index.old (what_of Request.Leave) self.seat mask.old.level (left result) index.new }
         ensures level { mask.new.level ≡ mask.old.level }
+        ensures case { leave_case result ≡ leave_due self.seat (left result) }
         ensures slip { IfErr result (λ kept. kept.slip ≡ self) }
     {
         let Slip { seat } = self;
