@@ -1,11 +1,11 @@
 -- What it takes for keys to be in order. Assumes nothing.
 use Rattle.std.specs.Prelude.{◌≡◌, Bool, true, false}
 
--- keys neither of which is below the other are the same key
+-- x and y are the same key where neither comes before the other
 abbrev pub Same : {K : Type 0} → (K → K → Bool) → K → K → Type 0
 Same below x y = (below x y ≡ false) × (below y x ≡ false)
 
--- a total order: nothing is below itself, below carries over, and so does being the same
+-- a total order: no key comes before itself; coming before, and being the same, each carry over from key to key
 pub record Total {K : Type 0} (below : K → K → Bool) : Type 0 where
   pub irreflexive : (x : K) → below x x ≡ false
   pub transitive : (x y z : K) → below x y ≡ true → below y z ≡ true → below x z ≡ true

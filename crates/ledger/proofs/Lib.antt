@@ -1,3 +1,4 @@
 pub mod Perms
 pub mod Ordered
+pub mod Lending
 pub mod Lawful

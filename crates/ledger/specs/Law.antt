@@ -48,6 +48,11 @@ pub data Run {K : Type 0} (x : Index K) (n w : ℕ) : List (Event K) → x.State
   made : {s : x.State} → x.Made n w s → Run x n w [] s
   more : {es : List (Event K)} {s : x.State} {e : Event K} {s' : x.State} → Run x n w es s → x.Next s e s' → Run x n w (e ∷ es) s'
 
+-- the state that the making left, with which the run began
+abbrev pub start_of : {K : Type 0} {x : Index K} {n w : ℕ} {es : List (Event K)} {s : x.State} → Run x n w es s → x.State
+start_of (made {s = s} m) = s
+start_of (more r d) = start_of r
+
 -- P holds of every event of a run, with the events before it, the state before and the state after
 abbrev pub Each : {K : Type 0} {x : Index K} {n w : ℕ} {es : List (Event K)} {s : x.State} → (List (Event K) → x.State → Event K → x.State → Type 0) → Run x n w es s → Type 0
 Each P (made m) = Unit {0}

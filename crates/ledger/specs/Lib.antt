@@ -1,4 +1,5 @@
 pub mod Tests
 pub mod Keys
 pub mod Ledger
+pub mod Lending
 pub mod Law

@@ -12,7 +12,7 @@ use Rattle.basis.specs.declared.answer.Answer.TheVariants.{Refused}
 use Rattle.marks.specs.Meaning.{Table, Order}
 use Rattle.ledger.specs.Tests.{test, first}
 use Rattle.ledger.specs.Ledger.{What, join, leave, begin, step, abandon, Call}
-use Rattle.list_law.specs.Call.{Link, Cell, Row, away, idle, running, State, Memory, Anchor, memory_of, fits_anchor, refusals, row_at, row_or, Effect, Met, bad, passed, present, absent, taken, taken_from, refused, ended, inserted, decided, walked, reach, window, turn, turn_effect, call_effect, effect, rows_after, Did}
+use Rattle.list_law.specs.Call.{Link, Cell, Row, away, idle, running, State, Memory, Anchor, memory_of, fits_anchor, early_refusals, row_at, row_or, Effect, Met, bad, passed, present, absent, taken, taken_from, refused, ended, inserted, decided, walked, reach, window, turn, turn_effect, call_effect, effect, rows_after, Did}
 use Rattle.list_law.proofs.Lists.{clash, none_some, nth_set_same, nth_set_other, nth_there}
 use Rattle.list_law.proofs.Refusals.{tests_pass}
 use Rattle.list_cells.specs.Views.{cell_of}
@@ -115,11 +115,11 @@ module _ {K M : Type 0} (below : K → K → Bool) (table : M → Table) (strict
   rows_stay = ap length did.rows ∙ length_after s.rows t f.row
 
   -- what the first tests leave to the row
-  inner_is : first (refusals s c) ≡ None → f ≡ turn_effect below (memory_of s) t s.anchor.window (table s.marks t) (turn t (row_at s.rows t) c.what)
+  inner_is : first (early_refusals s c) ≡ None → f ≡ turn_effect below (memory_of s) t s.anchor.window (table s.marks t) (turn t (row_at s.rows t) c.what)
   unfolding effect
   inner_is e = ap (call_effect below table s c) e
 
-  refused_is : (q : Refusal) → first (refusals s c) ≡ Some q → a ≡ Refused q
+  refused_is : (q : Refusal) → first (early_refusals s c) ≡ Some q → a ≡ Refused q
   unfolding effect
   refused_is q e = did.answer ∙ ap (λ o. (call_effect below table s c o).answer) e
 
@@ -129,7 +129,7 @@ module _ {K M : Type 0} (below : K → K → Bool) (table : M → Table) (strict
 
   effect_seats : c.what ≢ leave → Seats f.row
   unfolding effect
-  effect_seats d = call_seats d (first (refusals s c))
+  effect_seats d = call_seats d (first (early_refusals s c))
 
   may : (u : ℕ) → (c.what ≢ leave) ⊎ (u ≢ t) → Seats f.row ⊎ (u ≢ t)
   may u (inl d) = inl (effect_seats d)
@@ -150,9 +150,9 @@ module _ {K M : Type 0} (below : K → K → Bool) (table : M → Table) (strict
     pub was : row_at s.rows t ≡ away
 
   pub joined_held : c.what ≡ join → a ≡ Answer.Ok → Taken
-  joined_held what ok = by (first (refusals s c)) refl
+  joined_held what ok = by (first (early_refusals s c)) refl
     where
-      passed_held : first (refusals s c) ≡ None → (r : Row K) → row_at s.rows t ≡ r → Taken
+      passed_held : first (early_refusals s c) ≡ None → (r : Row K) → row_at s.rows t ≡ r → Taken
       passed_held e away er =
           let tests = tests_pass (ltb t 16) (fits_anchor s.cells s.anchor) (eqb (length s.rows) 16) (ltb c.level 7) [] e in
           let seat = ltb-true t 16 tests.1 in
@@ -170,7 +170,7 @@ module _ {K M : Type 0} (below : K → K → Bool) (table : M → Table) (strict
       passed_held e idle er = let no = did.answer ∙ ap (λ (x : Effect K). x.answer) (inner_is e) ∙ (λ i. (turn_effect below (memory_of s) t s.anchor.window (table s.marks t) (turn t (er i) (what i))).answer) in absurd (clash (cc))
       passed_held e (running k x) er = let no = did.answer ∙ ap (λ (x : Effect K). x.answer) (inner_is e) ∙ (λ i. (turn_effect below (memory_of s) t s.anchor.window (table s.marks t) (turn t (er i) (what i))).answer) in absurd (clash (cc))
 
-      by : (o : Option Refusal) → first (refusals s c) ≡ o → Taken
+      by : (o : Option Refusal) → first (early_refusals s c) ≡ o → Taken
       by (Some q) e = let no = refused_is q e in absurd (clash (cc))
       by None e = passed_held e (row_at s.rows t) refl
 
@@ -178,7 +178,7 @@ module _ {K M : Type 0} (below : K → K → Bool) (table : M → Table) (strict
   pub leave_accepted : c.what ≡ leave → ltb c.level 7 ≡ true → Held s t → a ≡ Answer.Ok
   leave_accepted what low h = did.answer ∙ ap (λ (x : Effect K). x.answer) (inner_is none) ∙ by (row_at s.rows t) h.row
     where
-      none : first (refusals s c) ≡ None
+      none : first (early_refusals s c) ≡ None
       none =
           let seat = lt-ltb t 16 h.seat in
           let sixteen = eq-eqb (length s.rows) 16 h.rows in

@@ -7,7 +7,7 @@ use Rattle.basis.specs.declared.answer.Answer.TheVariants.{Refused}
 use Rattle.marks.specs.Meaning.{Table}
 use Rattle.ledger.specs.Tests.{first}
 use Rattle.ledger.specs.Ledger.{What, join, leave, begin, step, abandon, Call}
-use Rattle.list_law.specs.Call.{Row, away, idle, running, State, Memory, memory_of, refusals, row_at, turn, turn_effect, call_effect, effect}
+use Rattle.list_law.specs.Call.{Row, away, idle, running, State, Memory, memory_of, early_refusals, row_at, turn, turn_effect, call_effect, effect}
 use Rattle.list.specs.Calls.{is_step}
 
 -- ok, or a refusal
@@ -38,8 +38,8 @@ module _ {K M : Type 0} (below : K → K → Bool) (table : M → Table) (s : St
 
   pub no_other : (a : Answer) → a ≡ (effect below table s c).answer → (a ≡ Answer.Ok → ⊥) → ((r : Refusal) → a ≡ Refused r → ⊥) → ⊥
   unfolding effect
-  no_other a is not-ok not-refused = neither (settled_call (first (refusals s c)))
+  no_other a is not-ok not-refused = neither (settled_call (first (early_refusals s c)))
     where
-      neither : Settled (call_effect below table s c (first (refusals s c))).answer → ⊥
+      neither : Settled (call_effect below table s c (first (early_refusals s c))).answer → ⊥
       neither (inl ok) = not-ok (is ∙ ok)
       neither (inr (r, refusal)) = not-refused r (is ∙ refusal)

@@ -1,4 +1,4 @@
-// The calls of the singly linked index: an ordered set of keys in cells that the caller supplies.
+// The five calls of the singly linked index, by seat number and by slip.
 #![tactic(auto)]
 
 pub mod call;

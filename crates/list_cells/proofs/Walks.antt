@@ -53,7 +53,7 @@ module _ {K : Type 0} (below : K → K → Bool) (cells : List (Cell K)) (x : K)
       used : suc (more - (i + 1)) ≡ more - i
       used = omega arith
 
-  -- a cell is passed, and the walk goes on from it
+  -- a cell is passed: the rest of the walk begins behind it
   pub walk_on : (lead : ℕ) (link : Link) (p : ℕ) (l : Link) → i < more → passed p l ≡ look below cells x (Some lead) link → behind below cells x (more - (i + 1)) p l ≡ behind below cells x (more - i) lead link
   walk_on lead link p l h e = first_passed below cells x (more - (i + 1)) (Some lead) link p l e ∙ one_less lead link h
 

@@ -7,7 +7,7 @@ use Rattle.marks.specs.Carried.{carried}
 use Rattle.marks.proofs.Computed.{along_computes}
 use Rattle.ledger.specs.Tests.{first}
 use Rattle.ledger.specs.Ledger.{Call}
-use Rattle.list_law.specs.Call.{Cell, State, Effect, refusals, call_effect, effect, anchor_after, rows_after, Obeys, Did}
+use Rattle.list_law.specs.Call.{Cell, State, Effect, early_refusals, call_effect, effect, anchor_after, rows_after, Obeys, Did}
 use Rattle.list_law.specs.Making.{releases, made_of}
 use Rattle.list_law.specs.Performed.{Ask, called, event, next, answers, answers_from}
 use Rattle.list_law.specs.Driven.{InTurn}
@@ -28,7 +28,7 @@ module _ {K M N : Type 0} (below : K → K → Bool) (state : M → N) (get : N 
   -- what a call does depends on the scheme's state alone
   same_effect : (s : State K M) (c : Call K) → effect below table_of s c ≡ effect below get (seen s) c
   unfolding effect
-  same_effect s c = go (first (refusals s c))
+  same_effect s c = go (first (early_refusals s c))
     where
       go : (r : Option Refusal) → call_effect below table_of s c r ≡ call_effect below get (seen s) c r
       go None = refl

@@ -1,18 +1,14 @@
 -- Whoever does what a call does, and makes what a making makes, goes on with every run lawfully. Assumes nothing.
-use Rattle.std.proofs.Common.{◌≡◌, ℕ, Bool, List, [], ◌∷◌, length, refl, inl, inr}
+use Rattle.std.proofs.Common.{◌≡◌, ℕ, Bool, [], ◌∷◌, length, refl}
 use Rattle.basis.specs.declared.answer.Answer.{Answer}
 use Rattle.keys.specs.Total.{Total}
 use Rattle.marks.specs.Meaning.{Table, Order}
 use Rattle.ledger.specs.Ledger.{Call}
 use Rattle.ledger.specs.Law.{made, more}
 use Rattle.list_law.specs.Call.{State, Did}
-use Rattle.list_law.specs.Runs.{Made, Lent, Next}
-use Rattle.list_law.specs.Continued.{Lendable, own_after, happened, Begins, Continues}
+use Rattle.list_law.specs.Runs.{Made, Next}
+use Rattle.list_law.specs.Continued.{happened, Begins, Continues}
 use Rattle.list_law.proofs.Lawful.{law}
-
-lent_so : {X : Type 0} (a : Answer) (own own' lent left : List X) (choice : Lendable a own lent) → own' ≡ own_after a own lent choice left → Lent a own own' lent left
-lent_so a own own' lent left (inl mine) h = inl (mine, h)
-lent_so a own own' lent left (inr other) h = inr (h, other)
 
 module _ {K M : Type 0} (below : K → K → Bool) (order : Total below) (table : M → Table) (strict : Bool) (acts : Order → M → M → Type 0) where
   pub begins : (n w : ℕ) (s : State K M) → Made table n w s → Begins below table strict acts n w s
@@ -28,12 +24,12 @@ module _ {K M : Type 0} (below : K → K → Bool) (order : Total below) (table 
         lent_marks = marks;
         anchor = anchor';
         marks = marks';
-        cells = lent_so a s.cells s'.cells lent.cells left.cells cells cells';
-        rows = lent_so a s.rows s'.rows lent.rows left.rows rows rows';
+        cells = (cells, cells');
+        rows = (rows, rows');
         cells_number = cells_number;
         rows_number = rows_number;
         did = did;
         told = refl;
       } in
       let lawful = law below order table strict acts n w (happened below table lent c a ∷ es) s' (more r d) in
-      (more r d, lawful, lawful.answers.0)
+      (d, lawful, lawful.answers.0)

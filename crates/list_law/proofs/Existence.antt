@@ -2,13 +2,13 @@
 use Rattle.std.proofs.Common.{◌≡◌, ℕ, ◌≤◌, Bool, true, false, cond, eqb, ◌≢◌, ◌⊎◌, List, length, replicate, Some, None, Option, sym, refl, ap, ◌∙◌, inl, inr, arith}
 use Rattle.std.proofs.lemmas.List.{length-replicate}
 use Rattle.std.proofs.lemmas.Bool.{cases_eq, eq-eqb, ne_eqb, cond-true, cond-false}
-use Rattle.basis.specs.declared.answer.Answer.{Answer}
 use Rattle.keys.specs.Total.{Total}
 use Rattle.marks.specs.Meaning.{Table, Order, release, reserve, revoke, Means, Along}
 use Rattle.ledger.specs.Ledger.{Call}
+use Rattle.ledger.specs.Lending.{looks_at_cells, looks_at_rows, Lent}
 use Rattle.ledger.specs.Law.{Event}
 use Rattle.list_law.specs.Call.{away, State, Effect, effect, anchor_after, rows_after, Obeys}
-use Rattle.list_law.specs.Runs.{Lent, Next, chained, onward}
+use Rattle.list_law.specs.Runs.{Next, chained, onward}
 use Rattle.list_law.specs.Existence.{Able, Runs, unconstrained, RunsAreThere}
 use Rattle.list_law.proofs.Lists.{nth_there}
 use Rattle.list_law.proofs.Proper.{effect_proper, along_there}
@@ -19,18 +19,18 @@ record Slice {X : Type 0} (own : List X) (k : ℕ) : Type 0 where
   lent : List X
   long : k ≡ length lent
   after : List X → List X
-  allowed : (a : Answer) (left : List X) → Lent a own (after left) lent left
+  allowed : (looks : Bool) (left : List X) → Lent looks own (after left) lent left
 
 slice : {X : Type 0} (own : List X) (x : X) (k : ℕ) → Slice own k
 slice own x k = go (cases_eq k (length own))
   where
     go : (k ≡ length own) ⊎ (k ≡ length own → ⊥) → Slice own k
-    go (inl e) = record { lent = own; long = e; after = λ left. left; allowed = λ a left. inl (refl, refl) }
+    go (inl e) = record { lent = own; long = e; after = λ left. left; allowed = λ looks left. (inl refl, refl) }
     go (inr d) = record {
       lent = replicate k x;
       long = sym (length-replicate k x);
       after = λ left. own;
-      allowed = λ a left. inr (refl, inl (λ h. d (sym (length-replicate k x) ∙ h)));
+      allowed = λ looks left. (inr (inl (λ h. d (sym (length-replicate k x) ∙ h))), refl);
     }
 
 module _ {K M : Type 0} (below : K → K → Bool) (order : Total below) (table : M → Table) (strict : Bool) (acts : Order → M → M → Type 0) (able : Able table strict acts) where
@@ -45,8 +45,8 @@ module _ {K M : Type 0} (below : K → K → Bool) (order : Total below) (table 
       lent_marks = refl;
       anchor = refl;
       marks = refl;
-      cells = cs.allowed e.answer left.cells;
-      rows = rs.allowed e.answer left.rows;
+      cells = cs.allowed (looks_at_cells e.answer) left.cells;
+      rows = rs.allowed (looks_at_rows e.answer) left.rows;
       cells_number = cs.long;
       rows_number = rs.long;
       did = record { answer = refl; cells = refl; anchor = refl; rows = refl; marks = on.1 };

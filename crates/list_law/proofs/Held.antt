@@ -3,7 +3,7 @@ use Rattle.std.proofs.Common.{◌≡◌, ℕ, zero, suc, pred, ◌≤◌, Bool, 
 use Rattle.std.proofs.lemmas.Bool.{both_ways}
 use Rattle.marks.specs.Meaning.{Table}
 use Rattle.list_law.specs.Call.{Link, State, row_at, reach}
-use Rattle.list_law.specs.Law.{Entry, entry, Leads, first_link, behind}
+use Rattle.list_law.specs.Law.{Entry, entry, Leads, first_link, link_behind}
 use Rattle.list_law.proofs.Chain.{leads_join, leads_split, leads_links, front_of}
 use Rattle.list_law.proofs.Walk.{Started}
 use Rattle.list_law.proofs.Width.{reach_least, reach_some, reach_again, low, most, most_holds}
@@ -73,7 +73,7 @@ module _ {K M : Type 0} (below : K → K → Bool) (table : M → Table) (s s' :
   next_way c b =
       let r = leads_split true s.cells s.anchor.head b.before (entry b.place b.key ∷ []) b.end b.leads in
       let width : reach t s.anchor.window (table s.marks t) ≡ s.anchor.window = ap (reach t s.anchor.window) b.marked ∙ reach_again t s.anchor.window b.place in
-      let on : first_link s.cells s.anchor.head (table s.marks t) ≡ b.end = ap (first_link s.cells s.anchor.head) b.marked ∙ ap behind r.2.2 ∙ r.2.3 in
+      let on : first_link s.cells s.anchor.head (table s.marks t) ≡ b.end = ap (first_link s.cells s.anchor.head) b.marked ∙ ap link_behind r.2.2 ∙ r.2.3 in
       record {
         before = (b.before ++ entry b.place b.key ∷ []) ++ fs;
         end = ahead.0;

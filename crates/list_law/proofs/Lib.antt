@@ -8,6 +8,7 @@ pub mod Invariant
 pub mod Width
 pub mod Held
 pub mod Refusals
+pub mod Elsewhere
 pub mod Called
 pub mod Outcomes
 pub mod Window

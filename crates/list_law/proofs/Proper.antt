@@ -10,7 +10,7 @@ use Rattle.basis.specs.declared.answer.Answer.TheVariants.{Yes}
 use Rattle.marks.specs.Meaning.{Table, Order, Along}
 use Rattle.ledger.specs.Tests.{first}
 use Rattle.ledger.specs.Ledger.{Call, What, join, leave, begin, step, abandon}
-use Rattle.list_law.specs.Call.{Link, Cell, Row, away, idle, running, State, Memory, memory_of, row_at, Met, bad, passed, present, absent, judged, met, look, followed, walk, resumed, walked, Effect, effect, refused, ended, inserted, taken, taken_from, decided, window, turn, turn_effect, refusals, call_effect, fits_anchor, reach, Obeys}
+use Rattle.list_law.specs.Call.{Link, Cell, Row, away, idle, running, State, Memory, memory_of, row_at, Met, bad, passed, present, absent, judged, met, look, followed, walk, resumed, walked, Effect, effect, refused, ended, inserted, taken, taken_from, decided, window, turn, turn_effect, early_refusals, call_effect, fits_anchor, reach, Obeys}
 use Rattle.list_law.specs.Existence.{Proper, Able}
 use Rattle.list_law.proofs.Lists.{nth_lt}
 use Rattle.list_law.proofs.Refusals.{tests_pass}
@@ -110,7 +110,7 @@ module _ {K : Type 0} (below : K → K → Bool) (m : Memory K) (t : ℕ) (seat 
   turned_proper win mark (running k x) abandon = (seat, tt)
 
 module _ {K M : Type 0} (below : K → K → Bool) (table : M → Table) (s : State K M) (c : Call K) where
-  judged_proper : (o : Option Refusal) → first (refusals s c) ≡ o → AllProper (call_effect below table s c o).orders
+  judged_proper : (o : Option Refusal) → first (early_refusals s c) ≡ o → AllProper (call_effect below table s c o).orders
   judged_proper (Some r) h = tt
   judged_proper None h =
       let t = tests_pass (ltb c.seat 16) (fits_anchor s.cells s.anchor) (eqb (length s.rows) 16) (ltb c.level 7) [] h in
@@ -124,7 +124,7 @@ module _ {K M : Type 0} (below : K → K → Bool) (table : M → Table) (s : St
   -- the orders of every call on every cells
   pub effect_proper : AllProper (effect below table s c).orders
   unfolding effect
-  effect_proper = judged_proper (first (refusals s c)) refl
+  effect_proper = judged_proper (first (early_refusals s c)) refl
 
 -- a scheme that can carry out each order carries out a list of them
 pub along_there : {M : Type 0} (table : M → Table) (strict : Bool) (acts : Order → M → M → Type 0) → Able table strict acts → (os : List Order) → AllProper os → (a : M) → (b : M) × Along (Obeys table strict acts) os a b

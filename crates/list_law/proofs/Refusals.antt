@@ -1,4 +1,4 @@
--- The index's refusals that depend on no row are the ledger's first three. Assumes nothing.
+-- The index's refusals that look at no row are the ledger's first three. Assumes nothing.
 use Rattle.std.proofs.Common.{◌≡◌, ℕ, ◌<◌, Bool, true, false, not, ◌&&◌, ◌||◌, eqb, ltb, leb, ◌≢◌, List, [], ◌∷◌, length, Some, None, Option, sym, refl, ap, ◌∙◌}
 use Rattle.std.proofs.lemmas.Bool.{and_parts, le-leb, ltb-true, eqb-true}
 use Rattle.basis.specs.declared.refusal.Refusal.{Refusal}
@@ -7,7 +7,7 @@ use Rattle.marks.specs.Meaning.{Table}
 use Rattle.ledger.specs.Tests.{Test, test, first}
 use Rattle.ledger.specs.Ledger as plain
 use Rattle.ledger.specs.Ledger.{Ledger, Call, What, fitting, joins, begins, steps, abandons}
-use Rattle.list_law.specs.Call.{State, fits_anchor, refusals}
+use Rattle.list_law.specs.Call.{State, Anchor, fits_anchor, early_refusals}
 use Rattle.list_law.proofs.Lists.{clash, none_some, some_inj}
 use Rattle.list_law.proofs.Invariant.{Inv}
 
@@ -21,6 +21,17 @@ row_tests what r =
 
 apart : {r q : Refusal} → Some r ≡ Some q → q ≢ BadLink → r ≢ BadLink
 apart e d h = d (sym (some_inj e) ∙ h)
+
+-- states of the same sizes and the same anchor are refused alike by the tests that look at no row
+pub tests_alike : {K M : Type 0} (s s₂ : State K M) (c : Call K) → length s.cells ≡ length s₂.cells → s.anchor ≡ s₂.anchor
+    → length s.rows ≡ length s₂.rows → first (early_refusals s c) ≡ first (early_refusals s₂ c)
+tests_alike {K} s s₂ c cells anchor rows = λ i. first (tests (cells i) (anchor i) (rows i))
+  where
+    tests : ℕ → Anchor → ℕ → List Test
+    tests k an r =
+        test (not (ltb c.seat 16)) OutOfRange ∷
+        test (not (leb 1 k && leb k 1008 && eqb k an.count && leb 1 an.window && leb an.window 64)) WrongSizes ∷
+        test (not (eqb r 16)) WrongSizes ∷ test (not (ltb c.level 7)) MaskRaised ∷ []
 
 -- the four tests before the row, as the index makes them and as the ledger makes them
 module _ (seat cells rows level : Bool) (rest : List Test) where
@@ -69,7 +80,7 @@ module _ {K M : Type 0} (below : K → K → Bool) (table : M → Table) (n w : 
   same_tests = ap (λ b. first (test (not (ltb c.seat 16)) OutOfRange ∷ test (not b) WrongSizes ∷ test (not (ltb c.level 7)) MaskRaised ∷ row_tests c.what (a.row c.seat))) sizes
 
   -- a refusal of the index is the ledger's
-  pub stopped : (r : Refusal) → first (refusals lent c) ≡ Some r → (first (plain.refusals a c (a.row c.seat)) ≡ Some r) × (r ≢ BadLink)
+  pub stopped : (r : Refusal) → first (early_refusals lent c) ≡ Some r → (first (plain.refusals a c (a.row c.seat)) ≡ Some r) × (r ≢ BadLink)
   stopped r h =
       let t = tests_stop (ltb c.seat 16) (fits_anchor lent.cells lent.anchor) (eqb (length lent.rows) 16) (ltb c.level 7) (row_tests c.what (a.row c.seat)) r h in
       (same_tests ∙ t.0, t.1)
@@ -81,7 +92,7 @@ module _ {K M : Type 0} (below : K → K → Bool) (table : M → Table) (n w : 
     pub cells_fit : length lent.cells ≡ length s.cells
     pub rows_fit : length lent.rows ≡ length s.rows
 
-  pub passed : first (refusals lent c) ≡ None → Passed
+  pub passed : first (early_refusals lent c) ≡ None → Passed
   passed h =
       let t = tests_pass (ltb c.seat 16) (fits_anchor lent.cells lent.anchor) (eqb (length lent.rows) 16) (ltb c.level 7) (row_tests c.what (a.row c.seat)) h in
       let l : ℕ = length lent.cells in

@@ -4,7 +4,7 @@ use Rattle.std.specs.List.{slice_get}
 use Rattle.keys.specs.Total.{Total}
 use Rattle.list_law.specs.Call.{Link, Cell, cell, Met, passed, present, absent, judged, met, look, followed, walk, resumed, walked}
 use Rattle.ledger.specs.Keys.{Every, Rises}
-use Rattle.list_law.specs.Law.{Entry, entry, keys, Leads, first_link, behind, beyond, past}
+use Rattle.list_law.specs.Law.{Entry, entry, keys, Leads, first_link, link_behind, beyond, past}
 use Rattle.list_law.proofs.Chain.{keys_append, Lead, start, after, leads_split}
 use Rattle.ledger.proofs.Ordered.{every_join, rises_above, rises_below, rises_right, above_all, below_all, low_not_above}
 
@@ -105,7 +105,7 @@ module _ {K : Type 0} (below : K → K → Bool) (order : Total below) (cs : Lis
             (subst (Every (λ z. not (below y z))) (sym (keys_append fs (entry p y ∷ [])))
             (every_join (λ z. not (below y z)) (keys fs) (y ∷ []) (low_not_above below order y (keys fs) (rises_below below (keys fs) y (keys bs) up)) (ap not (order.irreflexive y), tt)));
         far = subst (λ (o : Option (Cell K)). Every (past below o) (keys bs)) (sym there) (rises_above below (keys fs) y (keys bs) up);
-        leads = subst (λ (o : Option (Cell K)). Leads cs true (behind o) bs None) (sym there) parts.2.3;
+        leads = subst (λ (o : Option (Cell K)). Leads cs true (link_behind o) bs None) (sym there) parts.2.3;
         rises = (rises_right below (keys fs) (y ∷ keys bs) up).1;
         view = subst (λ (o : Option (Cell K)). Walked below cs x (fs ++ entry p y ∷ []) bs room (resumed below cs x room p o)) (sym there)
             (walk_view below order cs x room (fs ++ entry p y ∷ []) bs (Some p) l (after fs p y) parts.2.3 (rises_right below (keys fs) (y ∷ keys bs) up).1);

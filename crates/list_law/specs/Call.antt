@@ -237,9 +237,9 @@ abbrev pub fits_anchor : {K : Type 0} → List (Cell K) → Anchor → Bool
 fits_anchor cs a =
     nat_le 1 (length cs) && nat_le (length cs) 1008 && length cs == a.count && nat_le 1 a.window && nat_le a.window 64
 
--- the refusals that depend on no row, in their order
-abbrev pub refusals : {K M : Type 0} → State K M → Call K → List Test
-refusals s c =
+-- the refusals that look at no row, in their order
+abbrev pub early_refusals : {K M : Type 0} → State K M → Call K → List Test
+early_refusals s c =
     test (not (nat_lt c.seat 16)) OutOfRange ∷
     test (not (fits_anchor s.cells s.anchor)) WrongSizes ∷
     test (not (length s.rows == 16)) WrongSizes ∷
@@ -267,7 +267,7 @@ call_effect below table s c None =
 
 -- what a call does to the state that it is lent; the sizes are those of the lent cells and rows
 unfoldable pub effect : {K M : Type 0} → (K → K → Bool) → (M → Table) → State K M → Call K → Effect K
-effect below table s c = call_effect below table s c (first (refusals s c))
+effect below table s c = call_effect below table s c (first (early_refusals s c))
 
 -- the anchor with the chains that an effect leaves
 abbrev pub anchor_after : {K : Type 0} → Anchor → Memory K → Anchor

@@ -1,29 +1,18 @@
 -- What a making and a call promise of the runs that led to them: the run goes on, and is lawful. Assumes nothing.
-use Rattle.std.specs.Prelude.{◌≡◌, ℕ, suc, ◌+◌, ◌*◌, ◌/◌, Bool, ◌≢◌, ◌⊎◌, List, [], ◌∷◌, length}
-use Rattle.std.proofs.Common.{inl, inr}
+use Rattle.std.specs.Prelude.{◌≡◌, ℕ, suc, ◌+◌, ◌*◌, ◌/◌, Bool, List, [], ◌∷◌}
 use Rattle.basis.specs.declared.kind.Kind.{Kind}
-use Rattle.basis.specs.declared.refusal.Refusal.TheVariants.{OutOfRange, MaskRaised}
 use Rattle.basis.specs.declared.answer.Answer.{Answer}
-use Rattle.basis.specs.declared.answer.Answer.TheVariants.{Refused}
 use Rattle.marks.specs.Meaning.{Table, Order}
 use Rattle.ledger.specs.Ledger.{Call}
-use Rattle.ledger.specs.Law.{Event, Run, Answers, Lawful, fed}
+use Rattle.ledger.specs.Lending.{looks_at_cells, looks_at_rows, Lendable, own_after}
+use Rattle.ledger.specs.Law.{Event, Run, more, Answers, Lawful, fed}
 use Rattle.list_law.specs.Call.{State, effect}
+use Rattle.list_law.specs.Runs.{Next}
 use Rattle.list_law.specs.Law.{list_index}
 
 -- (k + 1) × ⌊n / w⌋ + 1 accepted steps, for every seat and kind
 abbrev pub limit : ℕ → ℕ → ℕ → Kind → ℕ → ℕ
 limit n w t kind k = suc k * (n / w) + 1
-
--- a slice that a call with this answer may be lent: the index's own, one of another number, or any one where the refusal looks at
--- no contents
-abbrev pub Lendable : {X : Type 0} → Answer → List X → List X → Type 0
-Lendable a own lent = (lent ≡ own) ⊎ ((length lent ≢ length own) ⊎ ((a ≡ Refused OutOfRange) ⊎ (a ≡ Refused MaskRaised)))
-
--- what the index has of it afterwards: what the call left there, if the slice was the index's own
-abbrev pub own_after : {X : Type 0} (a : Answer) (own lent : List X) → Lendable a own lent → List X → List X
-own_after a own lent (inl mine) left = left
-own_after a own lent (inr other) left = own
 
 -- the event of a call on what it was lent
 abbrev pub happened : {K M : Type 0} → (K → K → Bool) → (M → Table) → State K M → Call K → Answer → Event K
@@ -34,16 +23,17 @@ abbrev pub Begins : {K M : Type 0} → (K → K → Bool) → (M → Table) → 
 Begins below table strict acts n w s =
     (r : Run (list_index below table strict acts) n w [] s) × Lawful below (list_index below table strict acts) n w (limit n w) [] s r
 
--- a call on what it was lent, with this answer and what it left: whatever run led to an index with this anchor and this scheme, whose
--- cells and rows are those lent or could be other ones, the run with this event leads to what the index then is, and is lawful; and what
--- the law says of an event holds of this one
+-- a call on what it was lent, with this answer and what it left: whatever run led to an index with this anchor and this scheme, at which
+-- a call with this answer may be lent these cells and these rows, this event is one call more of that run, and leads to what the index
+-- then is; the run with it is lawful, and what the law says of an event holds of this one
 abbrev pub Continues : {K M : Type 0} → (K → K → Bool) → (M → Table) → Bool → (Order → M → M → Type 0) → State K M → Call K → Answer → State K M → Type 0
 Continues {K} {M} below table strict acts lent c a left =
-    (n w : ℕ) (es : List (Event K)) (s : State K M) → Run (list_index below table strict acts) n w es s →
+    (n w : ℕ) (es : List (Event K)) (s : State K M) (before : Run (list_index below table strict acts) n w es s) →
     lent.anchor ≡ s.anchor → lent.marks ≡ s.marks →
-    (cells : Lendable a s.cells lent.cells) (rows : Lendable a s.rows lent.rows) →
-    (s' : State K M) → s'.cells ≡ own_after a s.cells lent.cells cells left.cells → s'.rows ≡ own_after a s.rows lent.rows rows left.rows →
+    (cells : Lendable (looks_at_cells a) s.cells lent.cells) (rows : Lendable (looks_at_rows a) s.rows lent.rows) →
+    (s' : State K M) → s'.cells ≡ own_after (looks_at_cells a) s.cells lent.cells cells left.cells →
+    s'.rows ≡ own_after (looks_at_rows a) s.rows lent.rows rows left.rows →
     s'.anchor ≡ left.anchor → s'.marks ≡ left.marks →
-    (r : Run (list_index below table strict acts) n w (happened below table lent c a ∷ es) s')
-    × Lawful below (list_index below table strict acts) n w (limit n w) (happened below table lent c a ∷ es) s' r
+    (next : Next below table strict acts s (happened below table lent c a) s')
+    × Lawful below (list_index below table strict acts) n w (limit n w) (happened below table lent c a ∷ es) s' (more before next)
     × Answers below (list_index below table strict acts) (fed below n es) s (happened below table lent c a) s'

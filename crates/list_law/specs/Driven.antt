@@ -3,7 +3,7 @@ use Rattle.std.specs.Prelude.{◌≡◌, ℕ, Bool, List, [], ◌∷◌, ◌++�
 use Rattle.basis.specs.declared.answer.Answer.{Answer}
 use Rattle.marks.specs.Meaning.{Table, Order}
 use Rattle.ledger.specs.Ledger.{Call}
-use Rattle.ledger.specs.Law.{Event, Run, Lawful}
+use Rattle.ledger.specs.Law.{Event, Run, Lawful, start_of}
 use Rattle.list_law.specs.Call.{State, Did}
 use Rattle.list_law.specs.Law.{list_index}
 use Rattle.list_law.specs.Performed.{Ask, called}
@@ -31,7 +31,7 @@ InTurn {K} {M} below table strict acts s (k ∷ ks) (a ∷ bs) s' =
     (s₁ : State K M) × Did below table strict acts s (called s k) a s₁ × InTurn below table strict acts s₁ ks bs s'
 
 -- after an accepted making, which left `start`, these calls were made, with these answers, and led to s: each as it is defined, and all of
--- them a run, and lawful
+-- them a run, which began with `start` and is lawful
 pub record Driven {K M : Type 0} (below : K → K → Bool) (table : M → Table) (strict : Bool) (acts : Order → M → M → Type 0)
     (n w : ℕ) (start : State K M) (asks : List (Ask K)) (answers : List Answer) (s : State K M) : Type 0 where
   pub in_turn : InTurn below table strict acts start asks answers s
@@ -39,4 +39,5 @@ pub record Driven {K M : Type 0} (below : K → K → Bool) (table : M → Table
   pub calls : calls_in events ≡ map (call_asked n) asks
   pub answered : answers_in events ≡ answers
   pub run : Run (list_index below table strict acts) n w events s
+  pub begun : start_of run ≡ start
   pub lawful : Lawful below (list_index below table strict acts) n w (limit n w) events s run

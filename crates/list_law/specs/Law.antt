@@ -54,20 +54,20 @@ pub record Sound {K M : Type 0} (below : K → K → Bool) (a : Ledger K) (s : S
   pub from_free : Leads s.cells false s.anchor.free frees None
   -- every cell is met once in all
   pub once : (p : ℕ) → p < a.number → times p listed + times p frees ≡ 1
-  -- each listed key is below the next, and the listed keys are the set's, key for key
+  -- each listed key is below every later one, and the listed keys are the set's, key for key
   pub rises : Rises below (keys listed)
   pub members : Permuted a.members (keys listed)
   pub few : length listed ≤ a.number
 
 -- the link of a cell that there is
-abbrev pub behind : {K : Type 0} → Option (Cell K) → Link
-behind None = None
-behind (Some c) = c.link
+abbrev pub link_behind : {K : Type 0} → Option (Cell K) → Link
+link_behind None = None
+link_behind (Some c) = c.link
 
 -- the link that a window follows first: that of the marked cell, or the head if there is no mark
 abbrev pub first_link : {K : Type 0} → List (Cell K) → Link → Option ℕ → Link
 first_link cs head None = head
-first_link cs head (Some p) = behind (slice_get cs p)
+first_link cs head (Some p) = link_behind (slice_get cs p)
 
 -- by links from a, m cells are met, the last at place p, whose keys are all below x
 pub record Meets {K : Type 0} (below : K → K → Bool) (cs : List (Cell K)) (a : Link) (x : K) (m : ℕ) (p : ℕ) : Type 0 where

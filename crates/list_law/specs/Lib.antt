@@ -1,6 +1,7 @@
 pub mod Call
 pub mod Runs
 pub mod Law
+pub mod Elsewhere
 pub mod Existence
 pub mod Performed
 pub mod Continued

@@ -1,9 +1,7 @@
--- How the calls of a singly linked index follow one another: making, what a call may be lent, and the next event. Assumes nothing.
-use Rattle.std.specs.Prelude.{◌≡◌, ℕ, suc, ◌<◌, ◌≤◌, Bool, false, ◌≢◌, ◌⊎◌, List, [], ◌∷◌, length, replicate, Some, None}
-use Rattle.basis.specs.declared.refusal.Refusal.TheVariants.{OutOfRange, MaskRaised}
-use Rattle.basis.specs.declared.answer.Answer.{Answer}
-use Rattle.basis.specs.declared.answer.Answer.TheVariants.{Refused}
+-- How the calls of a singly linked index follow one another: making, and the next event. Assumes nothing.
+use Rattle.std.specs.Prelude.{◌≡◌, ℕ, suc, ◌<◌, ◌≤◌, Bool, false, List, [], ◌∷◌, length, replicate, Some, None}
 use Rattle.marks.specs.Meaning.{Table, Order}
+use Rattle.ledger.specs.Lending.{looks_at_cells, looks_at_rows, Lent}
 use Rattle.ledger.specs.Law.{Event}
 use Rattle.list_law.specs.Call.{Link, Cell, cell, away, State, Did, effect}
 
@@ -35,13 +33,6 @@ pub record Made {K M : Type 0} (table : M → Table) (n w : ℕ) (s : State K M)
   pub anchor : s.anchor ≡ record { count = n; window = w; head = None; free = onward 0 given }
   pub marks : (u : ℕ) → u < 16 → table s.marks u ≡ None
 
--- what the index owns before and after a call, against what the call was lent and what it left there: its own slice; or another
--- slice, and its own stays: one of another number, or one of the same number where the refusal looks at no contents
-abbrev pub Lent : {X : Type 0} → Answer → List X → List X → List X → List X → Type 0
-Lent a own own' lent lent' =
-    ((lent ≡ own) × (own' ≡ lent')) ⊎
-    ((own' ≡ own) × ((length lent ≢ length own) ⊎ ((a ≡ Refused OutOfRange) ⊎ (a ≡ Refused MaskRaised))))
-
 -- the call of event e leads the index from s to s'. It works on the index's own anchor and scheme
 pub record Next {K M : Type 0} (below : K → K → Bool) (table : M → Table) (strict : Bool) (acts : Order → M → M → Type 0)
     (s : State K M) (e : Event K) (s' : State K M) : Type 0 where
@@ -53,9 +44,9 @@ pub record Next {K M : Type 0} (below : K → K → Bool) (table : M → Table) 
   pub lent_marks : lent.marks ≡ s.marks
   pub anchor : s'.anchor ≡ left.anchor
   pub marks : s'.marks ≡ left.marks
-  -- cells and rows may be others
-  pub cells : Lent e.answer s.cells s'.cells lent.cells left.cells
-  pub rows : Lent e.answer s.rows s'.rows lent.rows left.rows
+  -- cells and rows may be others, by what the answer looks at
+  pub cells : Lent (looks_at_cells e.answer) s.cells s'.cells lent.cells left.cells
+  pub rows : Lent (looks_at_rows e.answer) s.rows s'.rows lent.rows left.rows
   -- the event has the numbers that were lent, this answer, and what the ledger is to be told
   pub cells_number : e.call.cells ≡ length lent.cells
   pub rows_number : e.call.rows ≡ length lent.rows

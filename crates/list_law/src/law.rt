@@ -1,7 +1,9 @@
 // The law across runs, as contracts: of the index over every kind of key and every scheme of marks.
 ghost use Rattle.std.specs.Prelude.{suc, ◌+◌, ◌*◌, ◌/◌, Bool};
 ghost use Rattle.marks.specs.Meaning.{Table};
+ghost use Rattle.basis.specs.declared.refusal.Refusal.{Refusal};
 ghost use Rattle.list_law.specs.Law.{Law, Windows};
+ghost use Rattle.list_law.specs.Elsewhere.{OthersServe};
 ghost use Rattle.list_law.specs.Existence.{unconstrained, RunsAreThere};
 
 use crate::proved;
@@ -28,6 +30,14 @@ pub fn windows_wait_at_the_last_cell<K: Key, S: Scheme>() -> u8
     ensures { Windows K.Key.below S.Scheme.table S.Scheme.strict S.Scheme.acts (λ w. w) (λ p. p) }
 {
     proved::windows_wait_at_the_last_cell::<K, S>()
+}
+
+// A call may as well be lent other cells of the same number where it is answered ok or refused other than for a bad link, and
+// other rows where it is refused for a number, the sizes or the mask: the run goes on as if they were the index's own.
+pub fn calls_may_be_lent_others<K: Key, S: Scheme>() -> u8
+    ensures { OthersServe K.Key.below S.Scheme.table S.Scheme.strict S.Scheme.acts Refusal.BadLink }
+{
+    proved::calls_may_be_lent_others::<K, S>()
 }
 
 // There are runs: a making for 1 to 1,008 given cells and windows of 1 to 64, and after every run every call.

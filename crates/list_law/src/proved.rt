@@ -2,7 +2,9 @@
 // at that clause, and not because a proof no longer fits it.
 ghost use Rattle.std.specs.Prelude.{suc, ◌+◌, ◌*◌, ◌/◌, Bool};
 ghost use Rattle.marks.specs.Meaning.{Table};
+ghost use Rattle.basis.specs.declared.refusal.Refusal.{Refusal};
 ghost use Rattle.list_law.specs.Law.{Law, Windows};
+ghost use Rattle.list_law.specs.Elsewhere.{OthersServe};
 ghost use Rattle.list_law.specs.Existence.{unconstrained, RunsAreThere};
 
 use keys::key::Key;
@@ -22,6 +24,12 @@ pub fn every_run_over_plain_marks_is_lawful<K: Key>() -> u8
 
 pub fn windows_wait_at_the_last_cell<K: Key, S: Scheme>() -> u8
     ensures { Windows K.Key.below S.Scheme.table S.Scheme.strict S.Scheme.acts (λ w. w) (λ p. p) }
+{
+    0
+}
+
+pub fn calls_may_be_lent_others<K: Key, S: Scheme>() -> u8
+    ensures { OthersServe K.Key.below S.Scheme.table S.Scheme.strict S.Scheme.acts Refusal.BadLink }
 {
     0
 }

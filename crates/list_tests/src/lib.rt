@@ -1,6 +1,8 @@
 // Tests of the singly linked index: the code of `list` run at its edges.
 #![tactic(auto)]
 
+pub mod other_cells;
+
 #[cfg(test)]
 mod driven;
 #[cfg(test)]
@@ -9,6 +11,8 @@ mod elsewhere;
 mod lent;
 #[cfg(test)]
 mod making;
+#[cfg(test)]
+mod other_slices;
 #[cfg(test)]
 mod refusals;
 #[cfg(test)]
