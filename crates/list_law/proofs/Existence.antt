@@ -33,9 +33,9 @@ slice own x k = go (cases_eq k (length own))
       allowed = λ a left. inr (refl, inl (λ h. d (sym (length-replicate k x) ∙ h)));
     }
 
-module _ {K M : Type 0} (below : K → K → Bool) (order : Total below) (table : M → Table) (strict : Bool) (acts : Order → M → M → Type 0) (able : Able table strict acts) where
-  next_there : (s : State K M) → 1 ≤ length s.cells → (c : Call K) → (e : Event K) × (s' : State K M) × Next below table strict acts s e s' × (e.call ≡ c)
-  next_there s some c = (
+module _ {K M : Type 0} (below : K → K → Bool) (order : Total below) (table : M → Table) (strict : Bool) (acts : Order → M → M → Type 0) (formed : M → Bool) (able : Able table strict acts formed) where
+  next_there : (s : State K M) → 1 ≤ length s.cells → formed s.marks ≡ true → (c : Call K) → (e : Event K) × (s' : State K M) × Next below table strict acts s e s' × (e.call ≡ c) × (formed s'.marks ≡ true)
+  next_there s some good c = (
     e,
     s',
     record {
@@ -53,6 +53,7 @@ module _ {K M : Type 0} (below : K → K → Bool) (order : Total below) (table 
       told = refl;
     },
     refl,
+    on.2,
   )
     where
       cs : Slice s.cells c.cells
@@ -67,8 +68,8 @@ module _ {K M : Type 0} (below : K → K → Bool) (order : Total below) (table 
       f : Effect K
       f = effect below table lent c
 
-      on : (m : M) × Along (Obeys table strict acts) f.orders s.marks m
-      on = along_there table strict acts able f.orders (effect_proper below table lent c) s.marks
+      on : (m : M) × Along (Obeys table strict acts) f.orders s.marks m × (formed m ≡ true)
+      on = along_there table strict acts formed able f.orders (effect_proper below table lent c) s.marks good
 
       left : State K M
       left = record { cells = f.memory.cells; rows = rows_after lent.rows c.seat f.row; anchor = anchor_after s.anchor f.memory; marks = on.0 }
@@ -79,16 +80,17 @@ module _ {K M : Type 0} (below : K → K → Bool) (order : Total below) (table 
       e : Event K
       e = record { call = c; answer = f.answer; told = f.told }
 
-  pub runs : Runs below table strict acts 1008 64
+  pub runs : Runs below table strict acts formed 1008 64
   runs = record {
     makes = λ n w some few some_w narrow given number. (
       record { cells = chained 0 given; rows = replicate 16 away; anchor = record { count = n; window = w; head = None; free = onward 0 given }; marks = able.blank },
       record { sized = record { some_cells = some; few_cells = few; some_window = some_w; narrow = narrow }; given = given; number = number; cells = refl; rows = refl; anchor = refl; marks = able.unmarked },
       refl,
+      able.blank_formed,
     );
-    goes_on = λ n w es s r c.
+    goes_on = λ n w es s r good c.
         let v = inv_of below order table strict acts n w es s r in
-        next_there s (omega (arith, v.cells, v.sized.some_cells)) c;
+        next_there s (omega (arith, v.cells, v.sized.some_cells)) good c;
   }
 
 -- the plain scheme can carry out every order
@@ -128,15 +130,16 @@ tables_obey strict (revoke p) m = (
   },
 )
 
-pub tables_able : (strict : Bool) → Able (λ (m : Table). m) strict unconstrained
+pub tables_able : (strict : Bool) → Able (λ (m : Table). m) strict unconstrained (λ _. true)
 tables_able strict = record {
   blank = λ _. None;
+  blank_formed = refl;
   unmarked = λ _ _. refl;
-  obeys = λ o _ m. let r = tables_obey strict o m in (r.0, (tt, r.1));
+  obeys = λ o _ m _. let r = tables_obey strict o m in (r.0, (tt, r.1), refl);
 }
 
 pub runs_are_there : {K M : Type 0} (below : K → K → Bool) → Total below → (table : M → Table) (strict : Bool) (acts : Order → M → M → Type 0) → RunsAreThere below table strict acts 1008 64
 runs_are_there below order table strict acts = record {
   over_scheme = runs below order table strict acts;
-  over_tables = λ keeps. runs below order (λ m. m) keeps unconstrained (tables_able keeps);
+  over_tables = λ keeps. runs below order (λ m. m) keeps unconstrained (λ _. true) (tables_able keeps);
 }
