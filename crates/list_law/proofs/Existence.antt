@@ -1,5 +1,5 @@
 -- Runs begin and go on. Assumes nothing.
-use Rattle.std.proofs.Common.{◌≡◌, ℕ, ◌≤◌, Bool, true, false, cond, eqb, ◌≢◌, ◌⊎◌, List, length, replicate, Some, None, Option, sym, refl, ap, ◌∙◌, inl, inr, arith}
+use Rattle.std.proofs.Common.{◌≡◌, ℕ, zero, suc, ◌+◌, ◌≤◌, Bool, true, false, cond, eqb, ◌≢◌, ◌⊎◌, List, length, replicate, Some, None, Option, sym, refl, ap, ◌∙◌, inl, inr, arith}
 use Rattle.std.proofs.lemmas.List.{length-replicate}
 use Rattle.std.proofs.lemmas.Bool.{cases_eq, eq-eqb, ne_eqb, cond-true, cond-false}
 use Rattle.basis.specs.declared.answer.Answer.{Answer}
@@ -11,7 +11,9 @@ use Rattle.list_law.specs.Call.{away, State, Effect, effect, anchor_after, rows_
 use Rattle.list_law.specs.Runs.{Lent, Next, chained, onward}
 use Rattle.list_law.specs.Existence.{Able, Runs, unconstrained, RunsAreThere}
 use Rattle.list_law.proofs.Lists.{nth_there}
-use Rattle.list_law.proofs.Proper.{effect_proper, along_there}
+use Rattle.list_law.specs.Making.{releases, releases_from}
+use Rattle.list_law.proofs.Proper.{AllProper, effect_proper, along_there}
+use Rattle.list_law.proofs.Made.{none}
 use Rattle.list_law.proofs.Lawful.{inv_of}
 
 -- a slice of k elements to lend: the index's own if it has as many, else another
@@ -80,14 +82,29 @@ module _ {K M : Type 0} (below : K → K → Bool) (order : Total below) (table 
       e : Event K
       e = record { call = c; answer = f.answer; told = f.told }
 
+  -- the releases of seats that there are
+  releases_proper : (t n : ℕ) → t + n ≤ 16 → AllProper (releases_from t n)
+  releases_proper t zero h = tt
+  releases_proper t (suc n) h = (omega arith, releases_proper (suc t) n (omega arith))
+
   pub runs : Runs below table strict acts formed 1008 64
   runs = record {
-    makes = λ n w some few some_w narrow given number. (
-      record { cells = chained 0 given; rows = replicate 16 away; anchor = record { count = n; window = w; head = None; free = onward 0 given }; marks = able.blank },
-      record { sized = record { some_cells = some; few_cells = few; some_window = some_w; narrow = narrow }; given = given; number = number; cells = refl; rows = refl; anchor = refl; marks = able.unmarked },
-      refl,
-      able.blank_formed,
-    );
+    makes = λ n w some few some_w narrow given number m good.
+        let on = along_there table strict acts formed able releases (releases_proper 0 16 (omega arith)) m good in (
+          record { cells = chained 0 given; rows = replicate 16 away; anchor = record { count = n; window = w; head = None; free = onward 0 given }; marks = on.0 },
+          record {
+            sized = record { some_cells = some; few_cells = few; some_window = some_w; narrow = narrow };
+            given = given;
+            number = number;
+            cells = refl;
+            rows = refl;
+            anchor = refl;
+            marks = λ u h. none below order table strict acts 0 16 m on.0 on.1 u h (omega arith) (omega arith);
+          },
+          refl,
+          on.1,
+          on.2,
+        );
     goes_on = λ n w es s r good c.
         let v = inv_of below order table strict acts n w es s r in
         next_there s (omega (arith, v.cells, v.sized.some_cells)) good c;
@@ -132,9 +149,8 @@ tables_obey strict (revoke p) m = (
 
 pub tables_able : (strict : Bool) → Able (λ (m : Table). m) strict unconstrained (λ _. true)
 tables_able strict = record {
-  blank = λ _. None;
-  blank_formed = refl;
-  unmarked = λ _ _. refl;
+  one = λ _. None;
+  one_formed = refl;
   obeys = λ o _ m _. let r = tables_obey strict o m in (r.0, (tt, r.1), refl);
 }
 
