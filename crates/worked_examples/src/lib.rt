@@ -2,4 +2,5 @@
 #![tactic(auto)]
 
 pub mod examples;
+pub mod existence;
 mod proved;
