@@ -1,8 +1,8 @@
 -- The schemes can carry out every proper order on their formed values. Assumes nothing.
-use Rattle.std.proofs.Common.{◌≡◌, ℕ, zero, suc, ◌+◌, ◌<◌, Bool, true, false, cond, ◌&&◌, eqb, ◌≢◌, ◌⊎◌, List, map, length, get_or, set, replicate, Some, None, Option, sym, refl, ap, ◌∙◌, subst, inl, inr, lit<, length-set}
+use Rattle.std.proofs.Common.{◌≡◌, ℕ, zero, suc, ◌+◌, ◌<◌, Bool, true, false, cond, ◌&&◌, eqb, ◌≢◌, ◌⊎◌, map, length, get_or, set, replicate, Some, None, Option, sym, refl, ap, ◌∙◌, subst, inl, inr, lit<, length-set}
 use Rattle.std.specs.Option.{option_map}
 use Rattle.std.proofs.lemmas.List.{length-map}
-use Rattle.std.proofs.lemmas.Bool.{and_parts, and_from, and_left, and_right, cond-true, cond-false, eqb-true, eq-eqb, cases_eq, cases_Bool}
+use Rattle.std.proofs.lemmas.Bool.{and_parts, and_from, and_left, and_right, cond-true, cond-false, eqb-true, eq-eqb, cases_eq}
 use Rattle.basis.specs.declared.bounded.Bounded.{Bounded}
 use Rattle.marks.specs.Meaning.{Table, Order, release, reserve, revoke, Seated, Kept}
 use Rattle.marks.specs.Marks.{numbered}
@@ -15,8 +15,8 @@ use Rattle.schemes.specs.declared.version.Version.{Version}
 use Rattle.schemes.specs.Clearing.{names, cleared}
 use Rattle.schemes.specs.Spread.{slot}
 use Rattle.schemes.specs.Full.{full_state, full_act, full_get}
-use Rattle.schemes.specs.Owner.{owner_state, owner_act, owner_get, if_owned}
-use Rattle.schemes.specs.Version.{seen_of, stamped, kept_in, version_state, version_act, version_get, if_current}
+use Rattle.schemes.specs.Owner.{owner_state, owner_act, owner_get}
+use Rattle.schemes.specs.Version.{seen_of, stamped, kept_in, version_state, version_act, version_get}
 use Rattle.schemes.specs.declared.pair.Pair.{Pair}
 use Rattle.schemes.specs.Pair.{uses_second, paired, pair_table, acts_in_one, pair_acts}
 use Rattle.schemes.proofs.Cleared.{none_is_not_some}
@@ -45,22 +45,25 @@ none_of f (suc k) (suc u) = none_of f k u
 full_obeys : (o : Order) → Proper o → (a : Full) → full_formed a ≡ true
     → (b : Full) × Obeys (λ s. full_get (full_state s)) true (ActsBy full_state full_act) o a b × (full_formed b ≡ true)
 full_obeys (release t) h a good =
-    let sixteen = eqb-true (length a.marks) 16 good in
-    (full.with_mark a t None,
-    (full.release_acts a t (seat t h) refl, full.release_means a t (seat t h) refl sixteen),
-    eq-eqb (length (set a.marks t None)) 16 (length-set a.marks t None ∙ sixteen))
+    let sixteen = eqb-true (length a.marks) 16 good in (
+      full.with_mark a t None,
+      (full.release_acts a t (seat t h) refl, full.release_means a t (seat t h) refl sixteen),
+      eq-eqb (length (set a.marks t None)) 16 (length-set a.marks t None ∙ sixteen),
+    )
 full_obeys (reserve t p) h a good =
     let sixteen = eqb-true (length a.marks) 16 good in
-    let there = place p h.1 in
-    (full.with_mark a t (Some there),
-    (full.reserve_acts a t (seat t h.0) refl there, full.reserve_means a t (seat t h.0) refl sixteen there),
-    eq-eqb (length (set a.marks t (Some there))) 16 (length-set a.marks t (Some there) ∙ sixteen))
+    let there = place p h.1 in (
+      full.with_mark a t (Some there),
+      (full.reserve_acts a t (seat t h.0) refl there, full.reserve_means a t (seat t h.0) refl sixteen there),
+      eq-eqb (length (set a.marks t (Some there))) 16 (length-set a.marks t (Some there) ∙ sixteen),
+    )
 full_obeys (revoke p) h a good =
     let sixteen = eqb-true (length a.marks) 16 good in
-    let b : Full = record { marks = cleared (λ m. names p (numbered m)) a.marks } in
-    (b,
-    (full.strike_acted a b p refl, full.strike_means a b p sixteen refl),
-    eq-eqb (length b.marks) 16 (length-map a.marks (λ m. cond (names p (numbered m)) None m) ∙ sixteen))
+    let b : Full = record { marks = cleared (λ m. names p (numbered m)) a.marks } in (
+      b,
+      (full.strike_acted a b p refl, full.strike_means a b p sixteen refl),
+      eq-eqb (length b.marks) 16 (length-map a.marks (λ m. cond (names p (numbered m)) None m) ∙ sixteen),
+    )
 
 pub full_able : Able (λ s. full_get (full_state s)) true (ActsBy full_state full_act) full_formed
 full_able = record {
@@ -91,23 +94,26 @@ module _ (a : Owner) (good : owner_formed a ≡ true) where
 owner_obeys : (o : Order) → Proper o → (a : Owner) → owner_formed a ≡ true
     → (b : Owner) × Obeys (λ s. owner_get (owner_state s)) false (ActsBy owner_state owner_act) o a b × (owner_formed b ≡ true)
 owner_obeys (release t) h a good =
-    let marks = set a.marks t None in
-    (owner.owner marks a.owners,
-    (owner.release_acts a t (seat t h) refl, owner.release_means a t (seat t h) refl (marks_sixteen a good) (owners_sixteen a good)),
-    and_from (eqb (length marks) 16) (eqb (length a.owners) 16) (owner_marked a good t None) (owner_parts a good).1)
+    let marks = set a.marks t None in (
+      owner.owner marks a.owners,
+      (owner.release_acts a t (seat t h) refl, owner.release_means a t (seat t h) refl (marks_sixteen a good) (owners_sixteen a good)),
+      and_from (eqb (length marks) 16) (eqb (length a.owners) 16) (owner_marked a good t None) (owner_parts a good).1,
+    )
 owner_obeys (reserve t p) h a good =
     let there = place p h.1 in
     let by = seat t h.0 in
     let marks = set a.marks t (Some there) in
-    let owners = set a.owners (slot p) (Some by) in
-    (owner.owner marks owners,
-    (owner.reserve_acts a t by refl (slot p) there refl, owner.reserve_means a t by refl (slot p) there refl (marks_sixteen a good) (owners_sixteen a good)),
-    and_from (eqb (length marks) 16) (eqb (length owners) 16) (owner_marked a good t (Some there)) (owner_owned a good (slot p) (Some by)))
+    let owners = set a.owners (slot p) (Some by) in (
+      owner.owner marks owners,
+      (owner.reserve_acts a t by refl (slot p) there refl, owner.reserve_means a t by refl (slot p) there refl (marks_sixteen a good) (owners_sixteen a good)),
+      and_from (eqb (length marks) 16) (eqb (length owners) 16) (owner_marked a good t (Some there)) (owner_owned a good (slot p) (Some by)),
+    )
 owner_obeys (revoke p) h a good =
-    let owners = set a.owners (slot p) None in
-    (owner.owner a.marks owners,
-    (owner.revoke_acts a (slot p) (place p h) refl, owner.revoke_means a (slot p) (place p h) refl (marks_sixteen a good) (owners_sixteen a good)),
-    and_from (eqb (length a.marks) 16) (eqb (length owners) 16) (owner_parts a good).0 (owner_owned a good (slot p) None))
+    let owners = set a.owners (slot p) None in (
+      owner.owner a.marks owners,
+      (owner.revoke_acts a (slot p) (place p h) refl, owner.revoke_means a (slot p) (place p h) refl (marks_sixteen a good) (owners_sixteen a good)),
+      and_from (eqb (length a.marks) 16) (eqb (length owners) 16) (owner_parts a good).0 (owner_owned a good (slot p) None),
+    )
 
 pub owner_able : Able (λ s. owner_get (owner_state s)) false (ActsBy owner_state owner_act) owner_formed
 owner_able = record {
@@ -118,7 +124,7 @@ owner_able = record {
 
 -- the version scheme
 
--- a scheme whose marks and counters are so many after an order that was carried out
+-- the stamps of a formed scheme, and what leads on from it
 module _ (a : Version) (good : version_formed a ≡ true) where
   version_parts : (eqb (length a.kept.marks) 16 ≡ true) × (eqb (length a.kept.counters) 16 ≡ true)
   version_parts = and_parts (eqb (length a.kept.marks) 16) (eqb (length a.kept.counters) 16) good
@@ -133,10 +139,11 @@ module _ (a : Version) (good : version_formed a ≡ true) where
   version_carries : (o : Order) → Seated o → (b : Stamps) → version_state b ≡ version_act o (version_state a.kept)
       → eqb (length b.marks) 16 ≡ true → eqb (length b.counters) 16 ≡ true
       → (b : Version) × Obeys (λ s. version_get (version_state s.kept)) false (ActsBy (λ s. version_state s.kept) version_act) o a b × (version_formed b ≡ true)
-  version_carries o h b acted marks counters =
-      (record { kept = b; sound = version.version_sound a.kept b (stamps_sixteen, counters_sixteen) a.sound o h acted },
-      (acted, version.version_means a.kept b (stamps_sixteen, counters_sixteen) a.sound o h acted),
-      and_from (eqb (length b.marks) 16) (eqb (length b.counters) 16) marks counters)
+  version_carries o h b acted marks counters = (
+    record { kept = b; sound = version.version_sound a.kept b (stamps_sixteen, counters_sixteen) a.sound o h acted },
+    (acted, version.version_means a.kept b (stamps_sixteen, counters_sixteen) a.sound o h acted),
+    and_from (eqb (length b.marks) 16) (eqb (length b.counters) 16) marks counters,
+  )
 
   version_marked : (t : ℕ) (m : Option Stamped) → eqb (length (set a.kept.marks t m)) 16 ≡ true
   version_marked t m = eq-eqb (length (set a.kept.marks t m)) 16 (length-set a.kept.marks t m ∙ stamps_sixteen)
@@ -219,22 +226,26 @@ module _ {F S : Type 0} (tableF : F → Table) (strictF : Bool) (actsF : Order �
         let r = ableS.obeys (release t) h a.second second_formed in
         let y : Pair F S = paired a.first r.0 a.bit in (
           y,
-          ((refl, in_one t true is (release t) y (refl, r.1.0)),
-          record {
-            own = cond-true (seconds t) (tableS r.0 t) (tableF a.first t) is ∙ r.1.1.own;
-            others = λ u l d. ap (λ m. cond (seconds u) m (tableF a.first u)) (r.1.1.others u l d);
-          }),
+          (
+            (refl, in_one t true is (release t) y (refl, r.1.0)),
+            record {
+              own = cond-true (seconds t) (tableS r.0 t) (tableF a.first t) is ∙ r.1.1.own;
+              others = λ u l d. ap (λ m. cond (seconds u) m (tableF a.first u)) (r.1.1.others u l d);
+            },
+          ),
           and_from (formedF a.first) (formedS r.0) first_formed r.2,
         )
     released t h false is =
         let r = ableF.obeys (release t) h a.first first_formed in
         let y : Pair F S = paired r.0 a.second a.bit in (
           y,
-          ((refl, in_one t false is (release t) y (r.1.0, refl)),
-          record {
-            own = cond-false (seconds t) (tableS a.second t) (tableF r.0 t) is ∙ r.1.1.own;
-            others = λ u l d. ap (λ m. cond (seconds u) (tableS a.second u) m) (r.1.1.others u l d);
-          }),
+          (
+            (refl, in_one t false is (release t) y (r.1.0, refl)),
+            record {
+              own = cond-false (seconds t) (tableS a.second t) (tableF r.0 t) is ∙ r.1.1.own;
+              others = λ u l d. ap (λ m. cond (seconds u) (tableS a.second u) m) (r.1.1.others u l d);
+            },
+          ),
           and_from (formedF r.0) (formedS a.second) r.2 second_formed,
         )
 
@@ -243,22 +254,26 @@ module _ {F S : Type 0} (tableF : F → Table) (strictF : Bool) (actsF : Order �
         let r = ableS.obeys (reserve t p) h a.second second_formed in
         let y : Pair F S = paired a.first r.0 a.bit in (
           y,
-          ((refl, in_one t true is (reserve t p) y (refl, r.1.0)),
-          record {
-            own = cond-true (seconds t) (tableS r.0 t) (tableF a.first t) is ∙ r.1.1.own;
-            others = λ u l d. kept_second (seconds u) (tableF a.first u) (tableS a.second u) (tableS r.0 u) (r.1.1.others u l d);
-          }),
+          (
+            (refl, in_one t true is (reserve t p) y (refl, r.1.0)),
+            record {
+              own = cond-true (seconds t) (tableS r.0 t) (tableF a.first t) is ∙ r.1.1.own;
+              others = λ u l d. kept_second (seconds u) (tableF a.first u) (tableS a.second u) (tableS r.0 u) (r.1.1.others u l d);
+            },
+          ),
           and_from (formedF a.first) (formedS r.0) first_formed r.2,
         )
     reserved t p h false is =
         let r = ableF.obeys (reserve t p) h a.first first_formed in
         let y : Pair F S = paired r.0 a.second a.bit in (
           y,
-          ((refl, in_one t false is (reserve t p) y (r.1.0, refl)),
-          record {
-            own = cond-false (seconds t) (tableS a.second t) (tableF r.0 t) is ∙ r.1.1.own;
-            others = λ u l d. kept_first (seconds u) (tableS a.second u) (tableF a.first u) (tableF r.0 u) (r.1.1.others u l d);
-          }),
+          (
+            (refl, in_one t false is (reserve t p) y (r.1.0, refl)),
+            record {
+              own = cond-false (seconds t) (tableS a.second t) (tableF r.0 t) is ∙ r.1.1.own;
+              others = λ u l d. kept_first (seconds u) (tableS a.second u) (tableF a.first u) (tableF r.0 u) (r.1.1.others u l d);
+            },
+          ),
           and_from (formedF r.0) (formedS a.second) r.2 second_formed,
         )
 
@@ -277,11 +292,13 @@ module _ {F S : Type 0} (tableF : F → Table) (strictF : Bool) (actsF : Order �
         let f = ableF.obeys (revoke p) h a.first first_formed in
         let s = ableS.obeys (revoke p) h a.second second_formed in (
           paired f.0 s.0 a.bit,
-          ((refl, (f.1.0, s.1.0)),
-          record {
-            struck = λ u l. struck p (seconds u) (tableS a.second u) (tableS s.0 u) (tableF a.first u) (tableF f.0 u) (s.1.1.struck u l) (f.1.1.struck u l);
-            others = λ u l. spared p (seconds u) (tableS a.second u) (tableS s.0 u) (tableF a.first u) (tableF f.0 u) (s.1.1.others u l) (f.1.1.others u l);
-          }),
+          (
+            (refl, (f.1.0, s.1.0)),
+            record {
+              struck = λ u l. struck p (seconds u) (tableS a.second u) (tableS s.0 u) (tableF a.first u) (tableF f.0 u) (s.1.1.struck u l) (f.1.1.struck u l);
+              others = λ u l. spared p (seconds u) (tableS a.second u) (tableS s.0 u) (tableF a.first u) (tableF f.0 u) (s.1.1.others u l) (f.1.1.others u l);
+            },
+          ),
           and_from (formedF f.0) (formedS s.0) f.2 s.2,
         )
 
