@@ -1,8 +1,6 @@
 // Tests of the singly linked index: the code of `list` run at its edges.
 #![tactic(auto)]
 
-pub mod other_cells;
-
 #[cfg(test)]
 mod driven;
 #[cfg(test)]
@@ -11,6 +9,7 @@ mod elsewhere;
 mod lent;
 #[cfg(test)]
 mod making;
+pub mod other_cells;
 #[cfg(test)]
 mod other_slices;
 #[cfg(test)]

@@ -2,7 +2,7 @@
 ghost use Rattle.std.specs.Prelude.{IfOk};
 ghost use Rattle.basis.specs.declared.answer.Answer.{Answer};
 ghost use Rattle.ledger.specs.Ledger as ledger;
-ghost use Rattle.list_window.specs.Lent.{lent_state};
+ghost use Rattle.list_window.specs.Lent.{lent_state, SameLent};
 ghost use Rattle.list.specs.Calls.{call_on};
 ghost use Rattle.list_tests.specs.OtherCells.{GoesOnBeside};
 
@@ -22,7 +22,8 @@ pub fn begin_on_other_cells<K: Key, S: Scheme>(
     kind: Kind,
     target: K,
 ) -> Result<(), Refusal>
-    ensures { IfOk result (λ _. GoesOnBeside K.Key.below S.Scheme.table S.Scheme.strict S.Scheme.acts (lent_state index.old) (call_on index.old (ledger.begin kind target) seat mask.old.level) Answer.Ok (lent_state index.new)) }
+    ensures runs { IfOk result (λ _. GoesOnBeside K.Key.below S.Scheme.table S.Scheme.strict S.Scheme.acts (lent_state index.old) (call_on index.old (ledger.begin kind target) seat mask.old.level) Answer.Ok (lent_state index.new)) }
+    ensures same { SameLent index.old index.new }
 {
     begin(index, mask, seat, kind, target)
 }

@@ -52,7 +52,10 @@ fn calls_but_steps_are_accepted_on_other_cells(rt: HostRuntime) {
         Request::Join,
         begin_of(Kind::Insert, 15),
     ] {
-        assert_eq!(rt; call_on_cells(&rt, &mut lent, others(), 1, request), Answer::Ok);
+        assert_eq!(rt;
+            call_on_cells(&rt, &mut lent, others(), 1, request),
+            Answer::Ok
+        );
         assert_eq!(rt; same.call(1, request), Answer::Ok);
         assert_eq!(rt; lent.picture(), same.picture());
     }
@@ -67,7 +70,12 @@ fn a_begin_is_accepted_on_other_cells(rt: HostRuntime) {
     let mut lent = Lent::listed();
     let mut cells = others();
     let target = Sector { number: 20 };
-    let mut index = Index::over(&mut cells, &mut lent.rows, &mut lent.anchor, &mut lent.scheme);
+    let mut index = Index::over(
+        &mut cells,
+        &mut lent.rows,
+        &mut lent.anchor,
+        &mut lent.scheme,
+    );
     let begun = begin_on_other_cells(&mut index, &mut lent.mask, 0, Kind::Lookup, target);
     assert_eq!(rt; begun, Ok(()));
     assert_eq!(rt; cells, others());
@@ -126,7 +134,13 @@ fn rows_are_not_looked_at_before_the_sizes(rt: HostRuntime) {
             &mut lent.anchor,
             &mut lent.scheme,
         );
-        let begun = begin(&mut index, &mut mask, seat, Kind::Insert, Sector { number: 15 });
+        let begun = begin(
+            &mut index,
+            &mut mask,
+            seat,
+            Kind::Insert,
+            Sector { number: 15 },
+        );
         assert_eq!(rt; begun, Err(refusal));
         assert_eq!(rt; rows, [Row { doing: Doing::Idle }; 16]);
         assert_eq!(rt; lent.picture(), before);

@@ -22,7 +22,7 @@ goes_on below table strict acts i what seat level (result.Ok x) j called = λ n 
     more run next.0
 goes_on below table strict acts i what seat level (result.Err e) j called = tt
 
-pub returns : goal.returns
-returns g c =
+pub returns-clause-runs : goal.returns-clause-runs
+returns-clause-runs g c =
     goes_on g.K.Key.below g.S.Scheme.table g.S.Scheme.strict g.S.Scheme.acts
     c.args.index.now _ c.args.seat c.args.mask.now.level c.begin.result c.begin.new.index c.begin.ensures.called
