@@ -65,6 +65,7 @@ fn run_version(start: u32, t: Seat, p: Place, q: Place) -> (Version, Option<Plac
 }
 
 // Two places sixteen apart share slot 5.
+#[tactic(auto, unfolding(schemes::specs::Spread::slot))]
 pub fn slots_of_3_and_19() -> Result<(usize, usize), Refusal>
     ensures answer { result ≡ Ok (5, 5) }
     ensures slots { result ≡ Ok (slot 3, slot 19) }
