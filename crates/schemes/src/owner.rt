@@ -5,9 +5,9 @@ ghost use Rattle.marks.specs.Carried.{ActsBy};
 ghost use Rattle.marks.specs.Marks.{Unmarked};
 ghost use Rattle.schemes.specs.Owner.{owner_state, owner_new, owner_act, owner_get};
 
-use marks::scheme::Scheme;
 use crate::spread::slot_of;
 use basis::bounded::{Place, Seat};
+use marks::scheme::Scheme;
 
 // The place that each seat has marked, or none, and the seat that owns each slot, or nobody.
 #[derive(Drop)]

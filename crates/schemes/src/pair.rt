@@ -2,8 +2,8 @@
 ghost use Rattle.std.specs.Prelude.{◌≡◌, ◌&&◌};
 ghost use Rattle.schemes.specs.Pair.{uses_second, banked, paired, pair_table, pair_acts};
 
-use marks::scheme::{Scheme, Strict};
 use basis::bounded::{BankBit, Place, Seat};
+use marks::scheme::{Scheme, Strict};
 
 // Seats in whose number that bit is 0 use the first scheme, the others the second.
 #[derive(Drop)]
