@@ -22,8 +22,8 @@ pub record Able {M : Type 0} (table : M → Table) (strict : Bool) (acts : Order
   pub obeys : (o : Order) → Proper o → (a : M) → formed a ≡ true → (b : M) × Obeys table strict acts o a b × (formed b ≡ true)
 
 -- runs over a scheme: they begin, and go on
-pub record Runs {K M : Type 0} (below : K → K → Bool) (table : M → Table) (strict : Bool) (acts : Order → M → M → Type 0) (formed : M → Bool)
-    (most widest : ℕ) : Type 0 where
+pub record Runs {K M : Type 0} (below : K → K → Bool) (table : M → Table) (strict : Bool) (acts : Order → M → M → Type 0)
+    (formed : M → Bool) (most widest : ℕ) : Type 0 where
   -- for 1 to `most` cells, windows of 1 to `widest`, all given cells and every formed value of the scheme there is an accepted making over
   -- those cells, in which that value has carried out the releases of all sixteen marks
   pub makes : (n w : ℕ) → 1 ≤ n → n ≤ most → 1 ≤ w → w ≤ widest → (given : List (Cell K)) → length given ≡ n → (m : M) → formed m ≡ true →

@@ -1,5 +1,5 @@
--- The values of each scheme as its code makes them, and what it takes for runs to be there over a scheme. An array of sixteen entries is a
--- list whose length its type does not say. Assumes nothing.
+-- The values of each scheme as its code makes them, and what it is that runs are there over a scheme. An array of sixteen entries is a
+-- list, and no type says how long a list is. Assumes nothing.
 use Rattle.std.specs.Prelude.{ℕ, Bool, ◌&&◌, length, ◌==◌}
 use Rattle.marks.specs.Meaning.{Table, Order}
 use Rattle.schemes.specs.declared.full.Full.{Full}
@@ -25,7 +25,7 @@ abbrev pub pair_formed : {F S : Type 0} → (F → Bool) → (S → Bool) → Pa
 pair_formed first second x = first x.first && second x.second
 
 -- runs are there over a scheme: it can carry out its orders, and so they begin and go on
-pub record ThereAreRuns {K M : Type 0} (below : K → K → Bool) (table : M → Table) (strict : Bool) (acts : Order → M → M → Type 0) (formed : M → Bool)
-    (most widest : ℕ) : Type 0 where
+pub record ThereAreRuns {K M : Type 0} (below : K → K → Bool) (table : M → Table) (strict : Bool) (acts : Order → M → M → Type 0)
+    (formed : M → Bool) (most widest : ℕ) : Type 0 where
   pub able : Able table strict acts formed
   pub runs : Runs below table strict acts formed most widest

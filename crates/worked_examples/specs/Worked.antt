@@ -69,8 +69,11 @@ abbrev pub until_the_wait : List (Ask Sector)
 until_the_wait = until_the_lookup ++ by_seat 1 step ∷ []
 
 -- seat 0 removes 20, on which seat 1 stands
+abbrev pub the_removal : List (Ask Sector)
+the_removal = begins_on 0 Remove 20 ∷ by_seat 0 step ∷ []
+
 abbrev pub until_the_removal : List (Ask Sector)
-until_the_removal = until_the_wait ++ begins_on 0 Remove 20 ∷ by_seat 0 step ∷ []
+until_the_removal = until_the_wait ++ the_removal
 
 -- seat 1 goes on; seat 0 inserts 25
 abbrev pub since_the_removal : List (Ask Sector)
@@ -80,15 +83,24 @@ since_the_removal = by_seat 1 step ∷ begins_on 0 Insert 25 ∷ by_seat 0 step 
 pub record PlaceUsedAgain (a b c : Cell Sector) (place : ℕ) : Type 0 where
   pub run : Run sectors_over_full 3 2 (events_of (three_cells a b c 2) (until_the_removal ++ since_the_removal))
       (state_after (three_cells a b c 2) (until_the_removal ++ since_the_removal))
-  pub answers : answers_of (three_cells a b c 2) until_the_wait
-      ≡ Answer.Ok ∷ Answer.Ok ∷ Yes ∷ Answer.Ok ∷ Yes ∷ Answer.Ok ∷ Wait ∷ Yes ∷ Answer.Ok ∷ Wait ∷ Full ∷ Answer.Ok ∷ No ∷ Answer.Ok ∷ Answer.Ok ∷ Wait ∷ []
+  pub answers : answers_of (three_cells a b c 2) until_the_wait ≡
+      Answer.Ok
+      ∷ Answer.Ok ∷ Yes
+      ∷ Answer.Ok ∷ Yes
+      ∷ Answer.Ok ∷ Wait ∷ Yes
+      ∷ Answer.Ok ∷ Wait ∷ Full
+      ∷ Answer.Ok ∷ No
+      ∷ Answer.Ok ∷ Answer.Ok ∷ Wait ∷ []
   pub marked : full_get (state_after (three_cells a b c 2) until_the_wait).marks 1 ≡ Some place
   -- the removal strikes that mark, and seat 1 has its answer all the same
-  pub removed : answers_of (state_after (three_cells a b c 2) until_the_wait) (begins_on 0 Remove 20 ∷ by_seat 0 step ∷ []) ≡ Answer.Ok ∷ Yes ∷ []
+  pub removed : answers_of (state_after (three_cells a b c 2) until_the_wait) the_removal ≡ Answer.Ok ∷ Yes ∷ []
   pub struck : full_get (state_after (three_cells a b c 2) until_the_removal).marks 1 ≡ None
-  pub answers_since : answers_of (state_after (three_cells a b c 2) until_the_removal) since_the_removal ≡ Yes ∷ Answer.Ok ∷ Yes ∷ []
+  pub answers_since : answers_of (state_after (three_cells a b c 2) until_the_removal) since_the_removal ≡
+      Yes
+      ∷ Answer.Ok ∷ Yes ∷ []
   -- the place is the new key's, between those of 10 and 30
-  pub placed : slice_get (state_after (three_cells a b c 2) (until_the_removal ++ since_the_removal)).cells place ≡ Some (cell (sector 25) (Some 2) true)
+  pub placed : slice_get (state_after (three_cells a b c 2) (until_the_removal ++ since_the_removal)).cells place ≡
+      Some (cell (sector 25) (Some 2) true)
 
 -- with window 1: seat 0 inserts 10, 20 and 30
 abbrev pub three_inserts : List (Ask Sector)
@@ -124,13 +136,19 @@ allowed later earlier = limit 3 1 0 Lookup (changes sector_below 3 0 later earli
 pub record BoundMet (a b c : Cell Sector) (steps : ℕ) : Type 0 where
   pub run : Run sectors_over_full 3 1 (later_events a b c four_steps ++ begun_events a b c)
       (state_after (three_cells a b c 1) (until_the_last_lookup ++ four_steps))
-  pub answers : answers_of (three_cells a b c 1) (until_the_last_lookup ++ four_steps)
-      ≡ Answer.Ok ∷ Answer.Ok ∷ Yes ∷ Answer.Ok ∷ Wait ∷ Yes ∷ Answer.Ok ∷ Wait ∷ Wait ∷ Yes ∷ Answer.Ok ∷ Wait ∷ Wait ∷ Wait ∷ No ∷ []
+  pub answers : answers_of (three_cells a b c 1) (until_the_last_lookup ++ four_steps) ≡
+      Answer.Ok
+      ∷ Answer.Ok ∷ Yes
+      ∷ Answer.Ok ∷ Wait ∷ Yes
+      ∷ Answer.Ok ∷ Wait ∷ Wait ∷ Yes
+      ∷ Answer.Ok ∷ Wait ∷ Wait ∷ Wait ∷ No ∷ []
   -- one step fewer has not answered
-  pub one_fewer : count (steps_of 0) (later_events a b c three_steps) + 1 ≡ allowed (later_events a b c three_steps) (begun_events a b c)
+  pub one_fewer : count (steps_of 0) (later_events a b c three_steps) + 1 ≡
+      allowed (later_events a b c three_steps) (begun_events a b c)
   pub pending : count (ends_of 0) (later_events a b c three_steps) ≡ 0
   -- as many as are allowed have
-  pub met : count (steps_of 0) (later_events a b c four_steps) ≡ allowed (later_events a b c four_steps) (begun_events a b c)
+  pub met : count (steps_of 0) (later_events a b c four_steps) ≡
+      allowed (later_events a b c four_steps) (begun_events a b c)
   pub ended : count (ends_of 0) (later_events a b c four_steps) ≡ 1
   pub number : count (steps_of 0) (later_events a b c four_steps) ≡ steps
 
