@@ -5,7 +5,7 @@ ghost use Rattle.basis.specs.Refusals.{refusal};
 use crate::refusal::Refusal;
 use std::fmt;
 
-// A number below END. One with another END is of another type, so a seat is never taken for a place nor a place for a seat.
+// A number below END. Each END makes a type of its own, so the build refuses a place where a seat is asked, and the other way round.
 #[derive(Clone, Copy, PartialEq, Eq, Debug)]
 pub struct Bounded<const END: u16> {
     number: u16,
