@@ -52,7 +52,7 @@ fn admit<K: Key, S: Scheme>(
     Ok(seat)
 }
 
-// One call, whatever is asked. The mask is raised before anything is looked at, and the guard puts the level back on every way out.
+/// One call, whatever is asked. The mask is raised before anything is looked at, and the guard puts the level back on every way out.
 #[inline(always)]
 pub fn make_call<K: Key, S: Scheme>(
     index: &mut Index<'_, K, S>,

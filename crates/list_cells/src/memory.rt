@@ -46,7 +46,7 @@ fn unlist<K: Key>(cells: &mut [Cell<K>], place: Place)
     }
 }
 
-// The link behind a place, or the head link, is set.
+/// The link behind a place, or the head link, is set.
 pub fn set_lead<K: Key>(
     cells: &mut [Cell<K>],
     anchor: &mut Anchor,
@@ -62,7 +62,7 @@ pub fn set_lead<K: Key>(
     }
 }
 
-// The cell at a place is flagged free, and then put at the front of the free chain.
+/// The cell at a place is flagged free, and then put at the front of the free chain.
 pub fn free_cell<K: Key>(cells: &mut [Cell<K>], anchor: &mut Anchor, place: Place)
     ensures memory { lent_memory cells.new anchor.new ≡ freed place.number (lent_memory cells.old anchor.old) }
     ensures sizes { SameSizes anchor.old anchor.new }
@@ -72,7 +72,7 @@ pub fn free_cell<K: Key>(cells: &mut [Cell<K>], anchor: &mut Anchor, place: Plac
     anchor.free = Some(place);
 }
 
-// The cell at a place leaves the list: the link that led to it gets the cell's own, and the cell becomes free.
+/// The cell at a place leaves the list: the link that led to it gets the cell's own, and the cell becomes free.
 pub fn unlink<K: Key>(
     cells: &mut [Cell<K>],
     anchor: &mut Anchor,
@@ -87,7 +87,7 @@ pub fn unlink<K: Key>(
     free_cell(cells, anchor, place);
 }
 
-// The cell at the front of the free chain, which then goes on at `rest`, is written whole: key, link, listed. Then it is linked to.
+/// The cell at the front of the free chain, which then goes on at `rest`, is written whole: key, link, listed. Then it is linked to.
 pub fn link_in<K: Key>(
     cells: &mut [Cell<K>],
     anchor: &mut Anchor,

@@ -17,7 +17,7 @@ use list_window::index::Index;
 use list_window::turn::Request;
 use marks::scheme::Scheme;
 
-// What a seat asks, by plain number, at which mask level.
+/// What a seat asks, by plain number, at which mask level.
 #[derive(Clone, Copy, PartialEq, Eq, Debug)]
 pub struct Ask<K> {
     pub seat: u8,
@@ -50,8 +50,8 @@ fn drive<K: Key, S: Scheme>(
     }
 }
 
-// Makes an index over what is lent and runs the calls on it, each at its own mask level, and writes their answers; the mask is then as it
-// was. Refused, with nothing altered, where there are not as many answers as calls or the sizes do not fit.
+/// Makes an index over what is lent and runs the calls on it, each at its own mask level, and writes their answers; the mask is then as it
+/// was. Refused, with nothing altered, where there are not as many answers as calls or the sizes do not fit.
 pub fn run_calls<K: Key, S: Scheme>(
     index: &mut Index<'_, K, S>,
     mask: &mut Mask,

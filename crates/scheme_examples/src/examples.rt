@@ -17,7 +17,7 @@ use schemes::owner::Owner;
 use schemes::spread::slot_of;
 use schemes::version::Version;
 
-// Places 0 and 16 share a slot: seat 0 marks the one, seat 1 the other and so takes the slot, and seat 0 has no mark left.
+/// Places 0 and 16 share a slot: seat 0 marks the one, seat 1 the other and so takes the slot, and seat 0 has no mark left.
 pub fn owner_loses_its_slot() -> Result<(Owner, Option<Place>), Refusal>
     ensures scheme { IsOkAnd result (λ r. owner_state r.0 ≡ owner_act (reserve 1 16) (owner_act (reserve 0 0) owner_new)) }
     ensures answer { IsOkAnd result (λ r. r.1 ≡ None) }
@@ -41,7 +41,7 @@ fn run_owner(t: Seat, p: Place, u: Seat, q: Place) -> (Owner, Option<Place>)
     (scheme, mark)
 }
 
-// With every counter at its last number a mark on place 1 does not outlive a revoke of 17, whose slot it shares.
+/// With every counter at its last number a mark on place 1 does not outlive a revoke of 17, whose slot it shares.
 pub fn version_starts_again() -> Result<(Version, Option<Place>), Refusal>
     ensures scheme { IsOkAnd result (λ r. version_state r.0.kept ≡ version_act (revoke 17) (version_act (reserve 0 1) (version_new 4294967295))) }
     ensures answer { IsOkAnd result (λ r. r.1 ≡ None) }
@@ -64,7 +64,7 @@ fn run_version(start: u32, t: Seat, p: Place, q: Place) -> (Version, Option<Plac
     (scheme, mark)
 }
 
-// Two places sixteen apart share slot 5.
+/// Two places sixteen apart share slot 5.
 #[tactic(auto, unfolding(schemes::specs::Spread::slot))]
 pub fn slots_of_3_and_19() -> Result<(usize, usize), Refusal>
     ensures answer { result ≡ Ok (5, 5) }
@@ -81,7 +81,7 @@ fn slots_of(p: Place, q: Place) -> (usize, usize)
     (slot_of(p), slot_of(q))
 }
 
-// A smaller count decides, whatever the blocks. Beside the answer the two keys that were compared.
+/// A smaller count decides, whatever the blocks. Beside the answer the two keys that were compared.
 pub fn counts_decide_first() -> Result<(Wear, Wear, bool), Refusal>
     ensures keys { IsOkAnd result (λ r. (r.0 ≡ wear 2874 65535) × (r.1 ≡ wear 2875 0)) }
     ensures answer { IsOkAnd result (λ r. r.2 ≡ wear_below (wear 2874 65535) (wear 2875 0)) }

@@ -7,14 +7,14 @@ ghost use Rattle.schemes.specs.Full.{full_state, full_new, full_act, full_get};
 use basis::bounded::{Place, Seat};
 use marks::scheme::{Scheme, Strict};
 
-// The place that each seat has marked, or none.
+/// The place that each seat has marked, or none.
 #[derive(Drop)]
 pub struct Full {
     marks: [Option<Place>; 16],
 }
 
 impl Full {
-    // No seat has a mark.
+    /// No seat has a mark.
     pub fn new() -> Full
         ensures table { Unmarked (full_get (full_state result)) }
         ensures exact { full_state result ≡ full_new }

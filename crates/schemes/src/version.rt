@@ -12,21 +12,21 @@ use crate::spread::slot_of;
 use basis::bounded::{Place, Seat};
 use marks::scheme::Scheme;
 
-// A mark, and the counter of its place's slot when it was made.
+/// A mark, and the counter of its place's slot when it was made.
 #[derive(Clone, Copy, PartialEq, Eq, Debug)]
 pub struct Stamped {
     place: Place,
     counter: u32,
 }
 
-// The mark of each seat, or none, and the counter of each slot.
+/// The mark of each seat, or none, and the counter of each slot.
 #[derive(Drop)]
 pub struct Stamps {
     marks: [Option<Stamped>; 16],
     counters: [u32; 16],
 }
 
-// The same, with no mark that a counter could bring back.
+/// The same, with no mark that a counter could bring back.
 #[derive(Drop)]
 pub struct Version {
     kept: Stamps,
@@ -34,7 +34,7 @@ pub struct Version {
 }
 
 impl Version {
-    // No seat has a mark, and all counters are `start`.
+    /// No seat has a mark, and all counters are `start`.
     pub fn new(start: u32) -> Version
         ensures table { Unmarked (version_get (version_state result.kept)) }
         ensures exact { version_state result.kept ≡ version_new start }
