@@ -5,8 +5,8 @@ ghost use Rattle.basis.specs.Answers.{answer, settled, spoken};
 use crate::refusal::Refusal;
 use std::fmt;
 
-// The answer of a call. A refusal is an answer too, and carries which one it is: a line prints it and the ledger gives it like the others, and a
-// `Result` has no `Display`. Calls that are only accepted or refused return a `Result`.
+/// The answer of a call. A refusal is an answer too, and carries which one it is: a line prints it and the ledger gives it like the others, and a
+/// `Result` has no `Display`. Calls that are only accepted or refused return a `Result`.
 #[derive(Clone, Copy, PartialEq, Eq, Debug)]
 pub enum Answer {
     No,
@@ -30,7 +30,7 @@ impl From<Result<(), Refusal>> for Answer {
 }
 
 impl Answer {
-    // The number of this case, 0 to 5.
+    /// The number of this case, 0 to 5.
     pub fn number(self) -> u8
         ensures { result ≡ (answer self).number }
     {
@@ -44,7 +44,7 @@ impl Answer {
         }
     }
 
-    // What this case carries: the number of a refusal, and else nothing.
+    /// What this case carries: the number of a refusal, and else nothing.
     pub fn value(self) -> Option<u8>
         ensures { option_to_list result ≡ (answer self).values }
     {
@@ -54,7 +54,7 @@ impl Answer {
         }
     }
 
-    // The word that a line prints for this answer.
+    /// The word that a line prints for this answer.
     pub fn word(self) -> &'static str
         ensures { result.now ≡ (answer self).word }
     {

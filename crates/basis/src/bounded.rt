@@ -5,20 +5,20 @@ ghost use Rattle.basis.specs.Refusals.{refusal};
 use crate::refusal::Refusal;
 use std::fmt;
 
-// A number below END. One with another END is of another type, so a seat is never taken for a place nor a place for a seat.
+/// A number below END. Each END makes a type of its own, so the build refuses a place where a seat is asked, and the other way round.
 #[derive(Clone, Copy, PartialEq, Eq, Debug)]
 pub struct Bounded<const END: u16> {
     number: u16,
     ghost ok: { number < END },
 }
 
-// A task's number, 0 to 15.
+/// A task's number, 0 to 15.
 pub type Seat = Bounded<16>;
 
-// A cell's number, 0 to 1,007.
+/// A cell's number, 0 to 1,007.
 pub type Place = Bounded<1008>;
 
-// Which of the four bits of a seat's number is looked at, 0 to 3.
+/// Which of the four bits of a seat's number is looked at, 0 to 3.
 pub type BankBit = Bounded<4>;
 
 // The number with its range, or the refusal of a number out of it.
@@ -37,14 +37,14 @@ impl<const END: u16> TryFrom<u16> for Bounded<END> {
 }
 
 impl<const END: u16> Bounded<END> {
-    // The plain number. A method and no `From`: `seat.number()` says what it is where `u16::from(seat)` says only of which type.
+    /// The plain number. A method and no `From`: `seat.number()` says what it is where `u16::from(seat)` says only of which type.
     pub fn number(self) -> u16
         ensures { result ≡ self.entry.number }
     {
         self.number
     }
 
-    // The number, to index by.
+    /// The number, to index by.
     pub fn index(self) -> usize
         ensures { result ≡ self.entry.number }
     {

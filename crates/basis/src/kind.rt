@@ -4,7 +4,7 @@ ghost use Rattle.basis.specs.Kinds.{kind_word};
 
 use std::fmt;
 
-// What a running row is about: to tell whether its target is in the set, to put it in, or to take it out.
+/// What a running row is about: to tell whether its target is in the set, to put it in, or to take it out.
 #[derive(Clone, Copy, PartialEq, Eq, Debug)]
 pub enum Kind {
     Lookup,

@@ -5,7 +5,7 @@ ghost use Rattle.basis.specs.Refusals.{refusal};
 use std::error::Error;
 use std::fmt;
 
-// Why a call was refused. Each case is named by its meaning; its number is the one that a caller sees.
+/// Why a call was refused. Each case is named by its meaning; its number is the one that a caller sees.
 #[derive(Clone, Copy, PartialEq, Eq, Debug)]
 pub enum Refusal {
     OutOfRange = 1,
@@ -31,7 +31,7 @@ impl From<Refusal> for u8 {
 }
 
 impl Refusal {
-    // The refusal in a few words, for a person.
+    /// The refusal in a few words, for a person.
     pub fn word(self) -> &'static str
         ensures { result.now ≡ (refusal self).word }
     {

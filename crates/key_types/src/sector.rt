@@ -5,7 +5,7 @@ ghost use Rattle.std.proofs.Common.{rules};
 
 use keys::key::Key;
 
-// A logical sector of the card, by its 32-bit number.
+/// A logical sector of the card, by its 32-bit number.
 #[derive(Clone, Copy, PartialEq, Eq, PartialOrd, Ord, Debug)]
 pub struct Sector {
     pub number: u32,

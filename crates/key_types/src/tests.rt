@@ -1,8 +1,8 @@
 // The order of both keys at its edges, and the largest erase count.
-use keys::key::Key;
 use crate::sector::Sector;
 use crate::wear::Wear;
 use basis::refusal::Refusal;
+use keys::key::Key;
 use std::test::Fail;
 
 #[test]
@@ -25,7 +25,13 @@ fn counts_decide_before_blocks(rt: HostRuntime) -> Result<(), Fail> {
     Ok(())
 }
 
+// The last count is taken, with any block; the next is refused.
 #[test]
-fn a_count_has_its_range(rt: HostRuntime) {
+fn a_count_has_its_range(rt: HostRuntime) -> Result<(), Fail> {
+    let last = Wear::new(2875, 65535)?;
+    assert_eq!(rt; last.count(), 2875);
+    assert_eq!(rt; last.block(), 65535);
     assert_eq!(rt; Wear::new(2876, 0), Err(Refusal::OutOfRange));
+    assert_eq!(rt; Wear::new(65535, 65535), Err(Refusal::OutOfRange));
+    Ok(())
 }

@@ -4,19 +4,19 @@ ghost use Rattle.basis.specs.Refusals.{refusal};
 ghost use Rattle.key_types.specs.Wear.{wear_below, wear};
 ghost use Rattle.std.proofs.Common.{rules};
 
-use keys::key::Key;
 use basis::refusal::Refusal;
+use keys::key::Key;
 
-// An erase count and the block's number. A plain record: the order's laws hold of every one, and `new` makes only those
-// whose count a block can have.
+/// An erase count and the block's number. A plain record: the order's laws hold of every one. `new` alone makes one, so every
+/// key of a program has a count that a block can have.
 #[derive(Clone, Copy, PartialEq, Eq, PartialOrd, Ord, Debug)]
 pub struct Wear {
-    pub count: u16,
-    pub block: u16,
+    count: u16,
+    block: u16,
 }
 
 impl Wear {
-    // The key of a block erased `count` times, or the refusal of a count past 2,875, which no block survives.
+    /// The key of a block erased `count` times, or the refusal of a count past 2,875, which no block survives.
     pub fn new(count: u16, block: u16) -> Result<Wear, Refusal>
         ensures { MatchResult result (λ w. (count ≤ 2875) × (w ≡ wear count block)) (λ e. (2875 < count) × ((refusal e).number ≡ 1)) }
     {
@@ -25,6 +25,20 @@ impl Wear {
         } else {
             Err(Refusal::OutOfRange)
         }
+    }
+
+    /// How often the block was erased.
+    pub fn count(self) -> u16
+        ensures { result ≡ self.count }
+    {
+        self.count
+    }
+
+    /// The number of the block.
+    pub fn block(self) -> u16
+        ensures { result ≡ self.block }
+    {
+        self.block
     }
 }
 

@@ -1,9 +1,10 @@
 -- A call of a request, as the definitions of one call have it. Assumes nothing.
-use Rattle.std.specs.Prelude.{ℕ, Bool, true, false, List, length}
+use Rattle.std.specs.Prelude.{◌≡◌, ℕ, Bool, true, false, List, length}
 use Rattle.basis.specs.declared.answer.Answer.{Answer}
+use Rattle.basis.specs.Answers.{answer}
 use Rattle.marks.specs.Meaning.{Table, Order}
 use Rattle.ledger.specs.Ledger.{What, join, leave, begin, step, abandon, Call}
-use Rattle.list_law.specs.Call.{Did}
+use Rattle.list_law.specs.Call.{Did, effect}
 use Rattle.list_law.specs.Continued.{Continues}
 use Rattle.list_window.specs.declared.index.Index.{Index}
 use Rattle.list_window.specs.Lent.{lent_state, SameLent}
@@ -17,10 +18,11 @@ abbrev pub call_on : {K M : Type 0} → Index K M → What K → ℕ → ℕ →
 call_on i what seat level = call_of what seat level i.cells.now i.rows.now
 
 -- this request, by that seat at that mask level, led from index i to index j with this answer: it is what the definitions of one call say,
--- the run goes on with it and is lawful, and j is over the same memory
+-- the answer's case is told by its definition (number, word and values), the run goes on with it and is lawful, and j is over the same memory
 pub record CalledOn {K M : Type 0} (below : K → K → Bool) (table : M → Table) (strict : Bool) (acts : Order → M → M → Type 0)
     (i : Index K M) (what : What K) (seat level : ℕ) (a : Answer) (j : Index K M) : Type 0 where
   pub did : Did below table strict acts (lent_state i) (call_on i what seat level) a (lent_state j)
+  pub case : answer a ≡ answer (effect below table (lent_state i) (call_on i what seat level)).answer
   pub runs : Continues below table strict acts (lent_state i) (call_on i what seat level) a (lent_state j)
   pub same : SameLent i j
 

@@ -32,7 +32,8 @@ fn settle<K: Key, S: Scheme>(
     }
 }
 
-// A seat that is away becomes idle.
+/// A seat, 0 to 15, that is away becomes idle. Refused, with nothing altered: 1 for another seat, 2 where sizes do not fit, 3 at a
+/// mask level of 7 or more, 4 where the row is not away.
 pub fn join<K: Key, S: Scheme>(
     index: &mut Index<'_, K, S>,
     mask: &mut Mask,
@@ -44,7 +45,8 @@ pub fn join<K: Key, S: Scheme>(
     settle(index, mask, seat, Request::Join)
 }
 
-// A seat becomes away, and its mark is released.
+/// A seat that is idle or running becomes away, and its mark is released. Refused, with nothing altered: 1 to 3 as `join`, 5 where
+/// the row is away.
 pub fn leave<K: Key, S: Scheme>(
     index: &mut Index<'_, K, S>,
     mask: &mut Mask,
@@ -56,7 +58,8 @@ pub fn leave<K: Key, S: Scheme>(
     settle(index, mask, seat, Request::Leave)
 }
 
-// An idle seat begins an operation on a target.
+/// An idle seat begins an operation on a target; the first `step` starts at the head. Refused, with nothing altered: 1 to 3 as `join`,
+/// 5 where the row is away, 6 where it is running.
 pub fn begin<K: Key, S: Scheme>(
     index: &mut Index<'_, K, S>,
     mask: &mut Mask,
@@ -70,7 +73,9 @@ pub fn begin<K: Key, S: Scheme>(
     settle(index, mask, seat, Request::Begin { kind, target })
 }
 
-// A running seat runs one window.
+/// A running seat runs one window: wait where the window is used up, else the operation's yes, no or full, and the seat is idle.
+/// Refused, with nothing altered: 1 to 3 as `join`, 5 where the row is away, 7 where it is idle, and 8 where the window would use a
+/// mark or a link to no cell, or to a cell of the wrong flag.
 pub fn step<K: Key, S: Scheme>(index: &mut Index<'_, K, S>, mask: &mut Mask, seat: u8) -> Answer
     ensures called { CalledOn K.Key.below S.Scheme.table S.Scheme.strict S.Scheme.acts index.old (what_of Request.Step) seat mask.old.level result index.new }
     ensures level { mask.new.level ≡ mask.old.level }
@@ -78,7 +83,8 @@ pub fn step<K: Key, S: Scheme>(index: &mut Index<'_, K, S>, mask: &mut Mask, sea
     make_call(index, mask, seat, Request::Step)
 }
 
-// A running seat drops its operation, and its mark is released.
+/// A running seat drops its operation and is idle, and its mark is released. Refused, with nothing altered: 1 to 3 as `join`, 5 where
+/// the row is away, 7 where it is idle.
 pub fn abandon<K: Key, S: Scheme>(
     index: &mut Index<'_, K, S>,
     mask: &mut Mask,

@@ -8,8 +8,8 @@ use crate::link::Link;
 use basis::bounded::Place;
 use keys::key::Key;
 
-// A cell: a key, the link to the next cell or the end of its chain, and whether it is listed; else it is free. Links are places in the lent cells
-// and no boxes: the firmware has no heap.
+/// A cell: a key, the link to the next cell or the end of its chain, and whether it is listed; else it is free. Links are places in the lent cells
+/// and no boxes: the firmware has no heap.
 #[derive(Clone, Copy, PartialEq, Eq, Debug)]
 pub struct Cell<K> {
     pub key: K,
@@ -18,7 +18,7 @@ pub struct Cell<K> {
 }
 
 impl<K: Key> Cell<K> {
-    // A cell with that key and flag, linked to a place or, where there is none, at the end of its chain.
+    /// A cell with that key and flag, linked to a place or, where there is none, at the end of its chain.
     pub fn new(key: K, link: Option<Place>, listed: bool) -> Cell<K>
         ensures { cell_of result ≡ cell key (numbered link) listed }
     {
@@ -30,7 +30,7 @@ impl<K: Key> Cell<K> {
     }
 }
 
-// Where an index begins: how many cells it has, how many cells a window may meet, the first listed cell and the first free one.
+/// Where an index begins: how many cells it has, how many cells a window may meet, the first listed cell and the first free one.
 #[derive(Clone, Copy, PartialEq, Eq, Debug)]
 pub struct Anchor {
     pub count: u16,

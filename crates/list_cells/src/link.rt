@@ -8,7 +8,7 @@ use basis::bounded::Place;
 // The number of no place, which stands for the end of a chain.
 const END: u16 = 1008;
 
-// A place or the end, in the two bytes of a number, so that a cell with a sector takes eight. One number alone stands for the end.
+/// A place or the end, in the two bytes of a number, so that a cell with a sector takes eight. One number alone stands for the end.
 #[derive(Clone, Copy, PartialEq, Eq, Debug)]
 pub struct Link {
     number: u16,
@@ -31,7 +31,7 @@ impl From<Option<Place>> for Link {
 }
 
 impl Link {
-    // The place that this link leads to, if it is not the end.
+    /// The place that this link leads to, if it is not the end.
     #[tactic(auto, using(crate::proofs::Links::named_there, crate::proofs::Links::named_end))]
     pub fn place(self) -> Option<Place>
         ensures { numbered result ≡ place_named self.number }

@@ -1,10 +1,8 @@
 // The writes of a window: to cells, and to where the two chains begin. Cells and anchor are two parameters and no struct: an index has them as
 // fields, and would have to be taken apart for it and put together again.
-ghost use Rattle.std.specs.Prelude.{◌≡◌, true, false, map};
+ghost use Rattle.std.specs.Prelude.{◌≡◌, false, map};
 ghost use Rattle.marks.specs.Marks.{numbered};
 ghost use Rattle.list_law.specs.Call.{rewritten, linked, flagged, leading_set, freed, removed, inserted};
-ghost use Rattle.list_law.specs.Call as call;
-ghost use Rattle.list_cells.specs.declared.cell.Cell.{Cell};
 ghost use Rattle.list_cells.specs.Views.{cell_of, lent_memory, SameSizes};
 
 use crate::cell::{Anchor, Cell};
@@ -24,18 +22,31 @@ fn store<K: Key>(cells: &mut [Cell<K>], place: Place, cell: Cell<K>)
     }
 }
 
-// The cell at a place becomes what `change` makes of it. The promise is for every function that `change` computes.
-fn rewrite<K: Key, F: FnOnce(Cell<K>) -> Cell<K>>(cells: &mut [Cell<K>], place: Place, change: F)
-    requires { F.IsAlwaysCallable change }
-    ensures { (f : call.Cell K → call.Cell K) → ((before after : Cell K) → F.post change before after → cell_of after ≡ f (cell_of before)) → map cell_of cells.new ≡ rewritten (map cell_of cells.old) place.number f }
+// The cell at a place gets another link; its key and its flag stay.
+fn relink<K: Key>(cells: &mut [Cell<K>], place: Place, link: Option<Place>)
+    ensures { map cell_of cells.new ≡ rewritten (map cell_of cells.old) place.number (linked (numbered link)) }
 {
     if let Some(cell) = cell_at(cells, place) {
-        let changed = change(*cell);
-        store(cells, place, changed);
+        let key = cell.key;
+        let link = Link::from(link);
+        let listed = cell.listed;
+        store(cells, place, Cell { key, link, listed });
     }
 }
 
-// The link behind a place, or the head link, is set.
+// The cell at a place is flagged free; its key and its link stay.
+fn unlist<K: Key>(cells: &mut [Cell<K>], place: Place)
+    ensures { map cell_of cells.new ≡ rewritten (map cell_of cells.old) place.number (flagged false) }
+{
+    if let Some(cell) = cell_at(cells, place) {
+        let key = cell.key;
+        let link = cell.link;
+        let listed = false;
+        store(cells, place, Cell { key, link, listed });
+    }
+}
+
+/// The link behind a place, or the head link, is set.
 pub fn set_lead<K: Key>(
     cells: &mut [Cell<K>],
     anchor: &mut Anchor,
@@ -47,36 +58,21 @@ pub fn set_lead<K: Key>(
 {
     match lead {
         None => anchor.head = link,
-        Some(place) => rewrite(
-            cells,
-            place,
-            |cell| Cell {
-                link: Link::from(link),
-                ..cell
-            },
-        ),
+        Some(place) => relink(cells, place, link),
     }
 }
 
-// The cell at a place is flagged free, and then put at the front of the free chain.
+/// The cell at a place is flagged free, and then put at the front of the free chain.
 pub fn free_cell<K: Key>(cells: &mut [Cell<K>], anchor: &mut Anchor, place: Place)
     ensures memory { lent_memory cells.new anchor.new ≡ freed place.number (lent_memory cells.old anchor.old) }
     ensures sizes { SameSizes anchor.old anchor.new }
 {
-    rewrite(
-        cells,
-        place,
-        |cell| Cell {
-            listed: false,
-            ..cell
-        },
-    );
-    let link = Link::from(anchor.free);
-    rewrite(cells, place, |cell| Cell { link, ..cell });
+    unlist(cells, place);
+    relink(cells, place, anchor.free);
     anchor.free = Some(place);
 }
 
-// The cell at a place leaves the list: the link that led to it gets the cell's own, and the cell becomes free.
+/// The cell at a place leaves the list: the link that led to it gets the cell's own, and the cell becomes free.
 pub fn unlink<K: Key>(
     cells: &mut [Cell<K>],
     anchor: &mut Anchor,
@@ -91,7 +87,7 @@ pub fn unlink<K: Key>(
     free_cell(cells, anchor, place);
 }
 
-// The front free cell leaves the free chain, which goes on at `rest`, takes key, link and flag, and is linked to.
+/// The cell at the front of the free chain, which then goes on at `rest`, is written whole: key, link, listed. Then it is linked to.
 pub fn link_in<K: Key>(
     cells: &mut [Cell<K>],
     anchor: &mut Anchor,

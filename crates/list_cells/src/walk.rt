@@ -11,8 +11,8 @@ use crate::cell::Cell;
 use basis::bounded::Place;
 use keys::key::Key;
 
-// What a link leads to, for a window on its way to a target. `lead` and `link` often go together and are no struct: in each case the link is
-// another one. Where it leads to no cell, or to a free one, a walk gives none of these.
+/// What a link leads to, for a window on its way to a target. `lead` and `link` often go together and are no struct: in each case the link is
+/// another one. Where it leads to no cell, or to a free one, a walk gives none of these.
 #[derive(Clone, Copy, PartialEq, Eq, Debug)]
 pub enum Met {
     // A cell whose key is below the target.
@@ -33,7 +33,7 @@ pub enum Met {
     },
 }
 
-// The cell at a place, if there is one.
+/// The cell at a place, if there is one.
 pub fn cell_at<K: Key>(cells: &[Cell<K>], place: Place) -> Option<&Cell<K>>
     ensures { found_of result ≡ slice_get (map cell_of cells.now) place.number }
 {
@@ -119,8 +119,8 @@ fn walk_from_head<K: Key>(
     }
 }
 
-// The walk of a window: from behind the marked cell, which must be a listed one, or from the head. It meets one cell more than it has room to pass,
-// and ends there.
+/// The walk of a window: from behind the marked cell, which must be a listed one, or from the head. It meets one cell more than it has room to pass,
+/// and ends there.
 #[inline(always)]
 pub fn walk_from<K: Key>(
     cells: &[Cell<K>],

@@ -10,6 +10,8 @@ use Rattle.list_law.specs.Call.{State}
 use Rattle.list_law.specs.Making.{makes, Makes}
 use Rattle.list_law.specs.Performed.{Ask}
 use Rattle.list_law.specs.Driven.{Driven}
+use Rattle.basis.specs.Cases.{Case}
+use Rattle.list_making.specs.Cases.{taken_case}
 
 -- what a seat asks
 abbrev pub ask_of : {K : Type 0} → declared.Ask K → Ask K
@@ -18,6 +20,10 @@ ask_of k = record { seat = k.seat; level = k.level; what = what_of k.request }
 -- as many answers as calls, and sizes that making takes
 abbrev pub runnable : ℕ → ℕ → ℕ → ℕ → ℕ → Bool
 runnable cells rows window calls answers = calls == answers && makes cells rows window
+
+-- what driving so many calls gives, with room for so many answers: ok where they can be run, else the refusal of wrong sizes
+abbrev pub driving_case : ℕ → ℕ → ℕ → ℕ → ℕ → Case
+driving_case cells rows window calls answers = taken_case (runnable cells rows window calls answers)
 
 -- an index made over n cells and r rows with window w, and these calls run on it: accepted where that can be done, and then the making is
 -- as it is defined, and the answers are those of a lawful run of exactly these calls; else refused, and nothing is altered

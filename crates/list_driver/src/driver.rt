@@ -1,10 +1,10 @@
 // The driver: makes an index and runs a list of calls on it.
 ghost use Rattle.std.specs.Prelude.{◌≡◌, [], map, length};
-ghost use Rattle.list_driver.specs.Asks.{ask_of, Ran};
+ghost use Rattle.list_driver.specs.Asks.{ask_of, driving_case, Ran};
 ghost use Rattle.list.specs.Calls.{CalledOn};
 ghost use Rattle.list_window.specs.Turns.{what_of};
 ghost use Rattle.list_window.specs.Lent.{lent_state, SameLent};
-ghost use Rattle.basis.specs.Answers.{settled};
+ghost use Rattle.basis.specs.Answers.{answer, settled};
 ghost use Rattle.list_law.specs.Driven.{Driven};
 
 use basis::answer::Answer;
@@ -17,7 +17,7 @@ use list_window::index::Index;
 use list_window::turn::Request;
 use marks::scheme::Scheme;
 
-// What a seat asks, by plain number, at which mask level.
+/// What a seat asks, by plain number, at which mask level.
 #[derive(Clone, Copy, PartialEq, Eq, Debug)]
 pub struct Ask<K> {
     pub seat: u8,
@@ -50,8 +50,8 @@ fn drive<K: Key, S: Scheme>(
     }
 }
 
-// Makes an index over what is lent and runs the calls on it, each at its own mask level, and writes their answers; the mask is then as it
-// was. Refused, with nothing altered, where there are not as many answers as calls or the sizes do not fit.
+/// Makes an index over what is lent and runs the calls on it, each at its own mask level, and writes their answers; the mask is then as it
+/// was. Refused, with nothing altered, where there are not as many answers as calls or the sizes do not fit.
 pub fn run_calls<K: Key, S: Scheme>(
     index: &mut Index<'_, K, S>,
     mask: &mut Mask,
@@ -60,6 +60,7 @@ pub fn run_calls<K: Key, S: Scheme>(
     answers: &mut [Answer],
 ) -> Result<(), Refusal>
     ensures ran { Ran K.Key.below S.Scheme.table S.Scheme.strict S.Scheme.acts (length index.old.cells.now) (length index.old.rows.now) window (map ask_of asks.now) answers.old (lent_state index.old) (settled result) answers.new (lent_state index.new) }
+    ensures case { answer (settled result) ≡ driving_case (length index.old.cells.now) (length index.old.rows.now) window (length asks.now) (length answers.old) }
     ensures level { mask.new.level ≡ mask.old.level }
     ensures same { SameLent index.old index.new }
 {

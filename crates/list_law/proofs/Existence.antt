@@ -1,5 +1,5 @@
 -- Runs begin and go on. Assumes nothing.
-use Rattle.std.proofs.Common.{◌≡◌, ℕ, ◌≤◌, Bool, true, false, cond, eqb, ◌≢◌, ◌⊎◌, List, length, replicate, Some, None, Option, sym, refl, ap, ◌∙◌, inl, inr, arith}
+use Rattle.std.proofs.Common.{◌≡◌, ℕ, zero, suc, ◌+◌, ◌≤◌, Bool, true, false, cond, eqb, ◌≢◌, ◌⊎◌, List, length, replicate, Some, None, Option, sym, refl, ap, ◌∙◌, inl, inr, arith}
 use Rattle.std.proofs.lemmas.List.{length-replicate}
 use Rattle.std.proofs.lemmas.Bool.{cases_eq, eq-eqb, ne_eqb, cond-true, cond-false}
 use Rattle.keys.specs.Total.{Total}
@@ -11,7 +11,9 @@ use Rattle.list_law.specs.Call.{away, State, Effect, effect, anchor_after, rows_
 use Rattle.list_law.specs.Runs.{Next, chained, onward}
 use Rattle.list_law.specs.Existence.{Able, Runs, unconstrained, RunsAreThere}
 use Rattle.list_law.proofs.Lists.{nth_there}
-use Rattle.list_law.proofs.Proper.{effect_proper, along_there}
+use Rattle.list_law.specs.Making.{releases, releases_from}
+use Rattle.list_law.proofs.Proper.{AllProper, effect_proper, along_there}
+use Rattle.list_law.proofs.Made.{none}
 use Rattle.list_law.proofs.Lawful.{inv_of}
 
 -- a slice of k elements to lend: the index's own if it has as many, else another
@@ -33,9 +35,9 @@ slice own x k = go (cases_eq k (length own))
       allowed = λ looks left. (inr (inl (λ h. d (sym (length-replicate k x) ∙ h))), refl);
     }
 
-module _ {K M : Type 0} (below : K → K → Bool) (order : Total below) (table : M → Table) (strict : Bool) (acts : Order → M → M → Type 0) (able : Able table strict acts) where
-  next_there : (s : State K M) → 1 ≤ length s.cells → (c : Call K) → (e : Event K) × (s' : State K M) × Next below table strict acts s e s' × (e.call ≡ c)
-  next_there s some c = (
+module _ {K M : Type 0} (below : K → K → Bool) (order : Total below) (table : M → Table) (strict : Bool) (acts : Order → M → M → Type 0) (formed : M → Bool) (able : Able table strict acts formed) where
+  next_there : (s : State K M) → 1 ≤ length s.cells → formed s.marks ≡ true → (c : Call K) → (e : Event K) × (s' : State K M) × Next below table strict acts s e s' × (e.call ≡ c) × (formed s'.marks ≡ true)
+  next_there s some good c = (
     e,
     s',
     record {
@@ -53,6 +55,7 @@ module _ {K M : Type 0} (below : K → K → Bool) (order : Total below) (table 
       told = refl;
     },
     refl,
+    on.2,
   )
     where
       cs : Slice s.cells c.cells
@@ -67,8 +70,8 @@ module _ {K M : Type 0} (below : K → K → Bool) (order : Total below) (table 
       f : Effect K
       f = effect below table lent c
 
-      on : (m : M) × Along (Obeys table strict acts) f.orders s.marks m
-      on = along_there table strict acts able f.orders (effect_proper below table lent c) s.marks
+      on : (m : M) × Along (Obeys table strict acts) f.orders s.marks m × (formed m ≡ true)
+      on = along_there table strict acts formed able f.orders (effect_proper below table lent c) s.marks good
 
       left : State K M
       left = record { cells = f.memory.cells; rows = rows_after lent.rows c.seat f.row; anchor = anchor_after s.anchor f.memory; marks = on.0 }
@@ -79,16 +82,32 @@ module _ {K M : Type 0} (below : K → K → Bool) (order : Total below) (table 
       e : Event K
       e = record { call = c; answer = f.answer; told = f.told }
 
-  pub runs : Runs below table strict acts 1008 64
+  -- the releases of seats that there are
+  releases_proper : (t n : ℕ) → t + n ≤ 16 → AllProper (releases_from t n)
+  releases_proper t zero h = tt
+  releases_proper t (suc n) h = (omega arith, releases_proper (suc t) n (omega arith))
+
+  pub runs : Runs below table strict acts formed 1008 64
   runs = record {
-    makes = λ n w some few some_w narrow given number. (
-      record { cells = chained 0 given; rows = replicate 16 away; anchor = record { count = n; window = w; head = None; free = onward 0 given }; marks = able.blank },
-      record { sized = record { some_cells = some; few_cells = few; some_window = some_w; narrow = narrow }; given = given; number = number; cells = refl; rows = refl; anchor = refl; marks = able.unmarked },
-      refl,
-    );
-    goes_on = λ n w es s r c.
+    makes = λ n w some few some_w narrow given number m good.
+        let on = along_there table strict acts formed able releases (releases_proper 0 16 (omega arith)) m good in (
+          record { cells = chained 0 given; rows = replicate 16 away; anchor = record { count = n; window = w; head = None; free = onward 0 given }; marks = on.0 },
+          record {
+            sized = record { some_cells = some; few_cells = few; some_window = some_w; narrow = narrow };
+            given = given;
+            number = number;
+            cells = refl;
+            rows = refl;
+            anchor = refl;
+            marks = λ u h. none below order table strict acts 0 16 m on.0 on.1 u h (omega arith) (omega arith);
+          },
+          refl,
+          on.1,
+          on.2,
+        );
+    goes_on = λ n w es s r good c.
         let v = inv_of below order table strict acts n w es s r in
-        next_there s (omega (arith, v.cells, v.sized.some_cells)) c;
+        next_there s (omega (arith, v.cells, v.sized.some_cells)) good c;
   }
 
 -- the plain scheme can carry out every order
@@ -128,15 +147,15 @@ tables_obey strict (revoke p) m = (
   },
 )
 
-pub tables_able : (strict : Bool) → Able (λ (m : Table). m) strict unconstrained
+pub tables_able : (strict : Bool) → Able (λ (m : Table). m) strict unconstrained (λ _. true)
 tables_able strict = record {
-  blank = λ _. None;
-  unmarked = λ _ _. refl;
-  obeys = λ o _ m. let r = tables_obey strict o m in (r.0, (tt, r.1));
+  one = λ _. None;
+  one_formed = refl;
+  obeys = λ o _ m _. let r = tables_obey strict o m in (r.0, (tt, r.1), refl);
 }
 
 pub runs_are_there : {K M : Type 0} (below : K → K → Bool) → Total below → (table : M → Table) (strict : Bool) (acts : Order → M → M → Type 0) → RunsAreThere below table strict acts 1008 64
 runs_are_there below order table strict acts = record {
   over_scheme = runs below order table strict acts;
-  over_tables = λ keeps. runs below order (λ m. m) keeps unconstrained (tables_able keeps);
+  over_tables = λ keeps. runs below order (λ m. m) keeps unconstrained (λ _. true) (tables_able keeps);
 }

@@ -35,7 +35,7 @@ module _ {K M : Type 0} (below : K → K → Bool) (order : Total below) (table 
   kept t (suc n) a b (m, (act, means), rest) u h l = kept (suc t) n m b rest u h (omega arith) ∙ means.others u h (λ e. omega arith)
 
   -- and every seat that is has none
-  none : (t n : ℕ) (a b : M) → Along (Obeys table strict acts) (releases_from t n) a b → (u : ℕ) → u < 16 → t ≤ u → u < t + n → table b u ≡ None
+  pub none : (t n : ℕ) (a b : M) → Along (Obeys table strict acts) (releases_from t n) a b → (u : ℕ) → u < 16 → t ≤ u → u < t + n → table b u ≡ None
   none t zero a b e u h l g = absurd (omega arith)
   none t (suc n) a b (m, (act, means), rest) u h l g =
       ⊎_elim (λ e. kept (suc t) n m b rest u h (omega arith) ∙ ap (table m) e ∙ means.own) (λ e. none (suc t) n m b rest u h (omega arith) (omega arith)) (cases_eq u t)

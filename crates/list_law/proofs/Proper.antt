@@ -127,9 +127,9 @@ module _ {K M : Type 0} (below : K → K → Bool) (table : M → Table) (s : St
   effect_proper = judged_proper (first (early_refusals s c)) refl
 
 -- a scheme that can carry out each order carries out a list of them
-pub along_there : {M : Type 0} (table : M → Table) (strict : Bool) (acts : Order → M → M → Type 0) → Able table strict acts → (os : List Order) → AllProper os → (a : M) → (b : M) × Along (Obeys table strict acts) os a b
-along_there table strict acts able [] h a = (a, refl)
-along_there table strict acts able (o ∷ os) h a =
-    let r = able.obeys o h.0 a in
-    let q = along_there table strict acts able os h.1 r.0 in
-    (q.0, (r.0, r.1, q.1))
+pub along_there : {M : Type 0} (table : M → Table) (strict : Bool) (acts : Order → M → M → Type 0) (formed : M → Bool) → Able table strict acts formed → (os : List Order) → AllProper os → (a : M) → formed a ≡ true → (b : M) × Along (Obeys table strict acts) os a b × (formed b ≡ true)
+along_there table strict acts formed able [] h a good = (a, refl, good)
+along_there table strict acts formed able (o ∷ os) h a good =
+    let r = able.obeys o h.0 a good in
+    let q = along_there table strict acts formed able os h.1 r.0 r.2 in
+    (q.0, (r.0, r.1, q.1), q.2)

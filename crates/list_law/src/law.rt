@@ -10,37 +10,37 @@ use crate::proved;
 use keys::key::Key;
 use marks::scheme::Scheme;
 
-// Every run is lawful: each answer is the ledger's, each wait is where the rule has it, the cells are sound after every
-// call, and on a strict scheme an operation with (k + 1) × ⌊n / w⌋ + 1 accepted steps has answered.
+/// Every run is lawful: each answer is the ledger's, each wait is where the rule has it, the cells are sound after every
+/// call, and on a strict scheme an operation with (k + 1) × ⌊n / w⌋ + 1 accepted steps has answered.
 pub fn every_run_is_lawful<K: Key, S: Scheme>() -> u8
     ensures { Law K.Key.below S.Scheme.table S.Scheme.strict S.Scheme.acts (λ n w t kind k. suc k * (n / w) + 1) }
 {
     proved::every_run_is_lawful::<K, S>()
 }
 
-// The same over plain marks, of which nothing is known but what the orders mean: whatever a scheme may do, this may do.
+/// The same over plain marks, of which nothing is known but what the orders mean: whatever a scheme may do, this may do.
 pub fn every_run_over_plain_marks_is_lawful<K: Key>() -> u8
     ensures { (keeps : Bool) → Law K.Key.below (λ (m : Table). m) keeps unconstrained (λ n w t kind k. suc k * (n / w) + 1) }
 {
     proved::every_run_over_plain_marks_is_lawful::<K>()
 }
 
-// A window waits exactly where it meets w cells below its target, and its mark is then the last of these.
+/// A window waits exactly where it meets w cells below its target, and its mark is then the last of these.
 pub fn windows_wait_at_the_last_cell<K: Key, S: Scheme>() -> u8
     ensures { Windows K.Key.below S.Scheme.table S.Scheme.strict S.Scheme.acts (λ w. w) (λ p. p) }
 {
     proved::windows_wait_at_the_last_cell::<K, S>()
 }
 
-// A call may as well be lent other cells of the same number where it is answered ok or refused other than for a bad link, and
-// other rows where it is refused for a number, the sizes or the mask: the run goes on as if they were the index's own.
+/// A call may as well be lent other cells of the same number where it is answered ok or refused other than for a bad link, and
+/// other rows where it is refused for a number, the sizes or the mask: the run goes on as if they were the index's own.
 pub fn calls_may_be_lent_others<K: Key, S: Scheme>() -> u8
     ensures { OthersServe K.Key.below S.Scheme.table S.Scheme.strict S.Scheme.acts Refusal.BadLink }
 {
     proved::calls_may_be_lent_others::<K, S>()
 }
 
-// There are runs: a making for 1 to 1,008 given cells and windows of 1 to 64, and after every run every call.
+/// There are runs: a making for 1 to 1,008 given cells and windows of 1 to 64, and after every run every call.
 pub fn runs_are_there<K: Key, S: Scheme>() -> u8
     ensures { RunsAreThere K.Key.below S.Scheme.table S.Scheme.strict S.Scheme.acts 1008 64 }
 {

@@ -7,8 +7,8 @@ use keys::key::Key;
 use list_cells::cell::{Anchor, Cell};
 use marks::scheme::Scheme;
 
-// An index: the cells and rows, the anchor and the marks that it is lent. Whatever a function does to an index stands in that memory once
-// the index is let go. The mask is no part of it: it belongs to the processor, and each call has a clause on its level.
+/// An index: the cells and rows, the anchor and the marks that it is lent. Whatever a function does to an index stands in that memory once
+/// the index is let go. The mask is no part of it: it belongs to the processor, and each call has a clause on its level.
 #[derive(Drop)]
 pub struct Index<'a, K, S> {
     pub cells: &'a mut [Cell<K>],
@@ -18,7 +18,7 @@ pub struct Index<'a, K, S> {
 }
 
 impl<'a, K: Key, S: Scheme> Index<'a, K, S> {
-    // The index over what is lent here.
+    /// The index over what is lent here.
     pub fn over(
         cells: &'a mut [Cell<K>],
         rows: &'a mut [Row<K>],

@@ -34,7 +34,7 @@ impl<K: Key, S: Scheme> Index<'_, K, S> {
         row_at(self.rows, seat)
     }
 
-    // What a request of a seat does, by its row.
+    /// What a request of a seat does, by its row.
     #[inline(always)]
     pub fn perform(&mut self, guard: &Guard, seat: Seat, request: Request<K>) -> Answer
         requires { guard.now.mask.now.level ≡ 7 }

@@ -7,7 +7,7 @@ use crate::row::{Doing, Row};
 use basis::bounded::Seat;
 use keys::key::Key;
 
-// What a seat is about; a row that is not there is away.
+/// What a seat is about; a row that is not there is away.
 pub fn row_at<K: Key>(rows: &[Row<K>], seat: Seat) -> Doing<K>
     ensures { doing_of result ≡ row_at (map row_of rows.now) seat.number }
 {
@@ -17,7 +17,7 @@ pub fn row_at<K: Key>(rows: &[Row<K>], seat: Seat) -> Doing<K>
     }
 }
 
-// The row of a seat is written whole.
+/// The row of a seat is written whole.
 pub fn put_row<K: Key>(rows: &mut [Row<K>], seat: Seat, doing: Doing<K>)
     ensures { map row_of rows.new ≡ slice_set (map row_of rows.old) seat.number (doing_of doing) }
 {

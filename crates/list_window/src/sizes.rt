@@ -2,7 +2,7 @@
 ghost use Rattle.std.specs.Prelude.{◌≡◌};
 ghost use Rattle.list_law.specs.Making.{makes};
 
-// The sizes that making takes: so many cells and rows, and cells that a window may meet.
+/// The sizes that making takes: so many cells and rows, and cells that a window may meet.
 pub fn sizes_fit(cells: usize, rows: usize, window: u8) -> bool
     ensures { result ≡ makes cells rows window }
 {

@@ -10,7 +10,7 @@ use basis::kind::Kind;
 use basis::refusal::Refusal;
 use keys::key::Key;
 
-// What a seat may ask of the index.
+/// What a seat may ask of the index.
 #[derive(Clone, Copy, PartialEq, Eq, Debug)]
 pub enum Request<K> {
     Join,
@@ -20,7 +20,7 @@ pub enum Request<K> {
     Abandon,
 }
 
-// What a call that is not refused makes of a row: another row, with or without a release of the seat's mark, or a window.
+/// What a call that is not refused makes of a row: another row, with or without a release of the seat's mark, or a window.
 #[derive(Clone, Copy, PartialEq, Eq, Debug)]
 pub enum Turn<K> {
     Becomes { doing: Doing<K>, releases: bool },

@@ -7,15 +7,15 @@ use Rattle.basis.specs.declared.bounded.Bounded.{Bounded}
 use Rattle.schemes.specs.declared.version.Stamped.{Stamped}
 use Rattle.schemes.specs.declared.version.Version.{Version}
 use Rattle.schemes.specs.Owner.{Owned}
-use Rattle.schemes.specs.Version.{Seen, Versioned, Sound, seen_of, version_state}
+use Rattle.schemes.specs.Version.{Dated, Versioned, NoneAhead, dated_of, version_state}
 use Rattle.scheme_examples.specs.Whole.{TellsAll, StatesTellAll}
 
 bounded_told : {END : ℕ} → TellsAll (λ (b : Bounded END). b.number)
 bounded_told {END} a b e = λ i. record { number = e i; ok = is_prop→PathP (λ j. e j < END) (λ j. le_prop) a.ok b.ok i }
 
-stamped_told : TellsAll seen_of
+stamped_told : TellsAll dated_of
 stamped_told m n e =
-    ap₂ (λ (p : Bounded 1008) (c : ℕ). record { place = p; counter = c }) (bounded_told m.place n.place (ap (λ (s : Seen). s.place) e)) (ap (λ (s : Seen). s.counter) e)
+    ap₂ (λ (p : Bounded 1008) (c : ℕ). record { place = p; counter = c }) (bounded_told m.place n.place (ap (λ (s : Dated). s.place) e)) (ap (λ (s : Dated). s.counter) e)
 
 option_told : {X Y : Type 0} (f : X → Y) → TellsAll f → TellsAll (option_map f)
 option_told f told None None e = refl
@@ -38,7 +38,7 @@ entries_told f told = list_told (option_map f) (option_told f told)
 stamps_told : TellsAll version_state
 stamps_told a b e =
     ap₂ (λ (ms : List (Option Stamped)) (cs : List ℕ). record { marks = ms; counters = cs })
-    (entries_told seen_of stamped_told a.marks b.marks (ap (λ (s : Versioned). s.marks) e))
+    (entries_told dated_of stamped_told a.marks b.marks (ap (λ (s : Versioned). s.marks) e))
     (ap (λ (s : Versioned). s.counters) e)
 
 version_told : TellsAll (λ (v : Version). version_state v.kept)
@@ -46,7 +46,7 @@ version_told a b e =
     let same : a.kept ≡ b.kept = stamps_told a.kept b.kept e in
     λ i. record {
       kept = same i;
-      sound = is_prop→PathP (λ j. Sound (version_state (same j))) (λ j. Π_prop (λ u. Π_prop (λ p. Π_prop (λ c. →_prop le_prop)))) a.sound b.sound i;
+      none_ahead = is_prop→PathP (λ j. NoneAhead (version_state (same j))) (λ j. Π_prop (λ u. Π_prop (λ p. Π_prop (λ c. →_prop le_prop)))) a.none_ahead b.none_ahead i;
     }
 
 pub states_tell_all : StatesTellAll

@@ -1,4 +1,4 @@
--- Runs of the code, by the orders that were carried out. Assumes nothing.
+-- Runs of the code, at their numbers. Assumes nothing.
 use Rattle.std.proofs.Common.{◌≡◌, ℕ, Some, None, Option, refl, ap, ◌∙◌, ap₂, arith}
 use Rattle.basis.specs.declared.bounded.Bounded.{Bounded}
 use Rattle.marks.specs.Meaning.Order.{reserve, revoke}
@@ -8,18 +8,18 @@ use Rattle.schemes.specs.Owner.{Owned, owner_new, owner_act, owner_get}
 use Rattle.schemes.specs.Version.{Versioned, version_new, version_act, version_get}
 
 -- a mark without a number is none
-pub none_from : (m : Option (Bounded 1008)) → numbered m ≡ None → m ≡ None
+none_from : (m : Option (Bounded 1008)) → numbered m ≡ None → m ≡ None
 none_from None e = refl
 none_from (Some p) e = let z : ◌≡◌ {A = ℕ} 0 1 = cc in absurd (omega arith)
 
--- a run of the owner scheme: seat t marks p, seat u marks q, and t asks
-pub owner_run : (a b c : Owned) (t p u q : ℕ) → t ≡ 0 → p ≡ 0 → u ≡ 1 → q ≡ 16 → a ≡ owner_new → b ≡ owner_act (reserve t p) a → c ≡ owner_act (reserve u q) b → owner_get c t ≡ None
+-- seat t has marked p and then seat u has marked q in an owner scheme, and t asks
+pub owner_asked : (t p u q : ℕ) → t ≡ 0 → p ≡ 0 → u ≡ 1 → q ≡ 16 → (s : Owned) (m : Option (Bounded 1008)) → s ≡ owner_act (reserve u q) (owner_act (reserve t p) owner_new) → numbered m ≡ owner_get s t → m ≡ None
 unfolding slot
-owner_run a b c t p u q t0 p0 u1 q16 made first second =
-    ap₂ owner_get (second ∙ ap₂ owner_act (ap₂ reserve u1 q16) (first ∙ ap₂ owner_act (ap₂ reserve t0 p0) made)) t0 ∙ refl
+owner_asked t p u q t0 p0 u1 q16 s m is asked =
+    none_from m (asked ∙ ap₂ owner_get (is ∙ ap₂ owner_act (ap₂ reserve u1 q16) (ap (λ o. owner_act o owner_new) (ap₂ reserve t0 p0))) t0 ∙ refl)
 
--- a run of the version scheme: seat t marks p, q is revoked, and t asks
-pub version_run : (a b c : Versioned) (n t p q : ℕ) → n ≡ 4294967295 → t ≡ 0 → p ≡ 1 → q ≡ 17 → a ≡ version_new n → b ≡ version_act (reserve t p) a → c ≡ version_act (revoke q) b → version_get c t ≡ None
+-- seat t has marked p and then q was revoked in a version scheme whose counters stood at their last number, and t asks
+pub version_asked : (t p q : ℕ) → t ≡ 0 → p ≡ 1 → q ≡ 17 → (s : Versioned) (m : Option (Bounded 1008)) → s ≡ version_act (revoke q) (version_act (reserve t p) (version_new 4294967295)) → numbered m ≡ version_get s t → m ≡ None
 unfolding slot
-version_run a b c n t p q last t0 p1 q17 made first second =
-    ap₂ version_get (second ∙ ap₂ version_act (ap revoke q17) (first ∙ ap₂ version_act (ap₂ reserve t0 p1) (made ∙ ap version_new last))) t0 ∙ refl
+version_asked t p q t0 p1 q17 s m is asked =
+    none_from m (asked ∙ ap₂ version_get (is ∙ ap₂ version_act (ap revoke q17) (ap (λ o. version_act o (version_new 4294967295)) (ap₂ reserve t0 p1))) t0 ∙ refl)

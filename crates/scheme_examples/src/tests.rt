@@ -1,24 +1,28 @@
 // The worked examples run, and each scheme at its edges: shared slots, the last counter, banks that do not meet.
 use crate::examples::{
-    counts_decide_first, examples_hold, owner_loses_its_slot, slots_of_3_and_19,
-    version_starts_again,
+    counts_decide_first, owner_loses_its_slot, slots_of_3_and_19, version_starts_again,
 };
 use crate::uses::{beside_another_in_nested, revoked_at_each};
 use basis::bounded::{BankBit, Place, Seat};
+use marks::scheme::Scheme;
 use schemes::full::Full;
 use schemes::owner::Owner;
 use schemes::pair::Pair;
-use marks::scheme::Scheme;
 use schemes::version::Version;
 use std::test::Fail;
 
 #[test]
 fn examples_run(rt: HostRuntime) -> Result<(), Fail> {
-    assert_eq!(rt; examples_hold(), 0);
-    assert_eq!(rt; owner_loses_its_slot()?, None);
-    assert_eq!(rt; version_starts_again()?, None);
+    let (owner, lost) = owner_loses_its_slot()?;
+    assert_eq!(rt; lost, None);
+    assert_eq!(rt; owner.get(Seat::try_from(1)?), Some(Place::try_from(16)?));
+    let (_, outdated) = version_starts_again()?;
+    assert_eq!(rt; outdated, None);
     assert_eq!(rt; slots_of_3_and_19()?, (5, 5));
-    assert!(rt; counts_decide_first()?);
+    let (less, more, below) = counts_decide_first()?;
+    assert!(rt; below);
+    assert_eq!(rt; (less.count(), less.block()), (2874, 65535));
+    assert_eq!(rt; (more.count(), more.block()), (2875, 0));
     Ok(())
 }
 

@@ -16,13 +16,13 @@ use schemes::owner::Owner;
 use schemes::pair::Pair;
 use schemes::version::Version;
 
-// A pair of a pair, over three schemes of different make.
+/// A pair of a pair, over three schemes of different make.
 pub type Nested = Pair<Pair<Full, Owner>, Version>;
 
-// A pair of a pair, over full schemes.
+/// A pair of a pair, over full schemes.
 pub type StrictNested = Pair<Full, Pair<Full, Full>>;
 
-// A place that is revoked as soon as it is marked: no mark, at each of the schemes.
+/// A place that is revoked as soon as it is marked: no mark, at each of the schemes.
 pub fn revoked_at_each(
     start: u32,
     bit: BankBit,
@@ -46,8 +46,8 @@ pub fn revoked_at_each(
     ]
 }
 
-// A function for each scheme, though each only calls the generic one: its clause says what the generic promise comes to at that scheme, in the
-// words of that scheme.
+/// A function for each scheme, though each only calls the generic one: its clause says what the generic promise comes to at that scheme, in the
+/// words of that scheme.
 pub fn move_in_full(full: &mut Full, t: Seat, p: Place)
     ensures { full_state full.new ≡ full_act (reserve t.number p.number) (full_act (release t.number) (full_state full.old)) }
 {
@@ -66,7 +66,7 @@ pub fn move_in_version(version: &mut Version, t: Seat, p: Place)
     move_mark(version, t, p);
 }
 
-// In a pair of pairs: both orders are carried out, and what they make of the bank that the seat does not use is nothing.
+/// In a pair of pairs: both orders are carried out, and what they make of the bank that the seat does not use is nothing.
 pub fn move_in_nested(nested: &mut Nested, t: Seat, p: Place)
     ensures other { uses_second nested.old.bit.number t.number ≡ true → nested.new.first ≡ nested.old.first }
     ensures acts { Along nested_acts (release t.number ∷ (reserve t.number p.number ∷ [])) nested.old nested.new }
@@ -81,7 +81,7 @@ pub fn beside_another_in_full(full: &mut Full, t: Seat, u: Seat, p: Place) -> Op
     mark_beside_another(full, t, u, p)
 }
 
-// The marks of a strict pair of pairs, just made.
+/// The marks of a strict pair of pairs, just made.
 pub fn beside_another_in_nested(
     outer: BankBit,
     inner: BankBit,

@@ -6,7 +6,7 @@ ghost use Rattle.scheme_examples.specs.Whole.{TellsAll, StatesTellAll, Computes,
 
 use schemes::version::Version;
 
-// Two schemes of equal states are equal, so what an order makes of a state is what it makes of the scheme.
+/// Two schemes of equal states are equal, so what an order makes of a state is what it makes of the scheme.
 pub fn states_tell_all() -> u8
     ensures full { TellsAll full_state }
     ensures owner { TellsAll owner_state }
@@ -20,7 +20,7 @@ fn compare_states()
     ensures { StatesTellAll }
 {}
 
-// What generic code promises of its orders is, at a given scheme, the state that the orders compute.
+/// What generic code promises of its orders is, at a given scheme, the state that the orders compute.
 pub fn orders_compute() -> u8
     ensures full { Computes full_state full_act }
     ensures owner { Computes owner_state owner_act }

@@ -15,10 +15,10 @@ map_cleared f test [] = refl
 map_cleared f test (m ∷ ms) = ap (λ n. n ∷ map (option_map f) (cleared (λ m. test (option_map f m)) ms)) (cond_mapped f (test (option_map f m)) m) ∙ ap (λ ns. cond (test (option_map f m)) None (option_map f m) ∷ ns) (map_cleared f test ms)
 
 -- a loop that clears: the next mark x, which passes the test or not, is cleared or written back
-pub cleared_more : {X : Type 0} (test : Option X → Bool) (xs ys : List (Option X)) (i : ℕ) (d : Option X) → i < length xs → ys ≡ cleared test (take i xs) ++ drop i xs → d ≡ get_or ys i d → (b : Bool) → b ≡ test (get_or ys i d) → (after : List (Option X)) → after ≡ set ys i (cond b None (get_or ys i d)) → after ≡ cleared test (take (i + 1) xs) ++ drop (i + 1) xs
+pub cleared_more : {X : Type 0} (test : Option X → Bool) (xs ys : List (Option X)) (i : ℕ) (d : Option X) → i < length xs → ys ≡ cleared test (take i xs) ++ drop i xs → d ≡ get_or ys i d → (b : Bool) → b ≡ test d → (after : List (Option X)) → after ≡ set ys i (cond b None (get_or ys i d)) → after ≡ cleared test (take (i + 1) xs) ++ drop (i + 1) xs
 cleared_more {X} test xs ys i d within so_far read b e after written =
     let x : Option X = get_or ys i d in
-    written ∙ ap (λ t. set ys i (cond t None x)) e ∙ map_over_more (λ m. cond (test m) None m) xs ys i x within so_far (ap (get_or ys i) read)
+    written ∙ ap (λ t. set ys i (cond t None x)) (e ∙ ap test read) ∙ map_over_more (λ m. cond (test m) None m) xs ys i x within so_far (ap (get_or ys i) read)
 
 -- at the loop's end all are done
 pub cleared_all : {X : Type 0} (test : Option X → Bool) (xs ys : List (Option X)) (i : ℕ) → length xs ≤ i → ys ≡ cleared test (take i xs) ++ drop i xs → ys ≡ cleared test xs

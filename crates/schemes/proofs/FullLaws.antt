@@ -16,7 +16,7 @@ on_other p None ne = refl
 on_other p (Some q) ne = ne_eqb q p (λ e. ne (ap Some e))
 
 module _ (ms : List (Option ℕ)) (sixteen : length ms ≡ 16) where
-  meant : (o : Order) → Seated o → Means true o (full_get ms) (full_get (full_act o ms))
+  pub meant : (o : Order) → Seated o → Means true o (full_get ms) (full_get (full_act o ms))
   meant (release t) h = record {
     own = get_or-set_same ms t None None (omega arith);
     others = λ u l ne. get_or-set_other ms t u None None ne;

@@ -8,8 +8,8 @@ use Rattle.marks.specs.Meaning.{Order, Means, Reserved, Released, Revoked, Seate
 use Rattle.marks.specs.Meaning.Order.{release, reserve, revoke}
 use Rattle.marks.specs.Marks.{numbered}
 use Rattle.schemes.specs.Clearing.{names}
-use Rattle.schemes.specs.Spread.{slot}
-use Rattle.schemes.specs.Owner.{Owned, owned, Sixteens, owner_state, owner_act, owner_get, if_owned}
+use Rattle.schemes.specs.Spread.{Sixteens, slot}
+use Rattle.schemes.specs.Owner.{Owned, owned, owner_state, owner_act, owner_get, if_owned}
 use Rattle.schemes.proofs.Cleared.{set_mapped}
 use Rattle.schemes.proofs.Slots.{slot_below}
 
@@ -55,7 +55,7 @@ module _ (s : Owned) (marks16 : length s.marks ≡ 16) (owners16 : length s.owne
   }
 
 -- where the state is what the order makes of it, the order is carried out as it means
-owner_means : (s after : Owner) → Sixteens s → (o : Order) → Seated o → owner_state after ≡ owner_act o (owner_state s) → Means false o (owner_get (owner_state s)) (owner_get (owner_state after))
+owner_means : (s after : Owner) → Sixteens s.marks s.owners → (o : Order) → Seated o → owner_state after ≡ owner_act o (owner_state s) → Means false o (owner_get (owner_state s)) (owner_get (owner_state after))
 owner_means s after sixteen o h e =
     subst (λ x. Means false o (owner_get (owner_state s)) (owner_get x)) (sym e)
     (meant (owner_state s) (length-map s.marks numbered ∙ sixteen.0) (length-map s.owners numbered ∙ sixteen.1) o h)

@@ -1,5 +1,5 @@
 -- The owner scheme, by numbers: a mark for each seat and an owner for each slot. Assumes nothing.
-use Rattle.std.specs.Prelude.{◌≡◌, ℕ, cond, List, map, length, replicate, Some, None, Option, slice_index_or, slice_set}
+use Rattle.std.specs.Prelude.{ℕ, cond, List, map, replicate, Some, None, Option, slice_index_or, slice_set}
 use Rattle.schemes.specs.declared.owner.Owner.{Owner}
 use Rattle.marks.specs.Meaning.{Order, Table}
 use Rattle.marks.specs.Meaning.Order.{release, reserve, revoke}
@@ -14,10 +14,6 @@ pub record Owned : Type 0 where
 
 abbrev pub owned : List (Option ℕ) → List (Option ℕ) → Owned
 owned ms os = record { marks = ms; owners = os }
-
--- there are sixteen marks and sixteen slots
-abbrev pub Sixteens : Owner → Type 0
-Sixteens s = (length s.marks ≡ 16) × (length s.owners ≡ 16)
 
 abbrev pub owner_state : Owner → Owned
 owner_state s = owned (map numbered s.marks) (map numbered s.owners)

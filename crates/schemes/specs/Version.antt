@@ -1,6 +1,6 @@
 -- The version scheme, by numbers: a counter for each slot, and marks that keep the counter seen at their reserve.
 -- Assumes nothing.
-use Rattle.std.specs.Prelude.{◌≡◌, ℕ, ◌+◌, ◌≤◌, Bool, false, cond, List, map, length, replicate, Some, None, Option, ◌==◌, slice_index, slice_index_or, slice_set}
+use Rattle.std.specs.Prelude.{◌≡◌, ℕ, ◌+◌, ◌≤◌, Bool, false, cond, List, map, replicate, Some, None, Option, ◌==◌, slice_index, slice_index_or, slice_set}
 use Rattle.std.specs.Option.{option_map}
 use Rattle.basis.specs.declared.bounded.Bounded.{Bounded}
 use Rattle.schemes.specs.declared.version.Stamped.{Stamped}
@@ -11,33 +11,29 @@ use Rattle.schemes.specs.Clearing.{cleared}
 use Rattle.schemes.specs.Spread.{slot}
 
 -- a mark: its place, and the counter of the place's slot when it was made
-pub record Seen : Type 0 where
+pub record Dated : Type 0 where
   pub place : ℕ
   pub counter : ℕ
 
-abbrev pub seen : ℕ → ℕ → Seen
-seen p c = record { place = p; counter = c }
+abbrev pub dated : ℕ → ℕ → Dated
+dated p c = record { place = p; counter = c }
 
 -- for each seat its mark, or none; for each slot its counter
 pub record Versioned : Type 0 where
-  pub marks : List (Option Seen)
+  pub marks : List (Option Dated)
   pub counters : List ℕ
 
-abbrev pub versioned : List (Option Seen) → List ℕ → Versioned
+abbrev pub versioned : List (Option Dated) → List ℕ → Versioned
 versioned ms cs = record { marks = ms; counters = cs }
 
-abbrev pub seen_of : Stamped → Seen
-seen_of m = seen m.place.number m.counter
+abbrev pub dated_of : Stamped → Dated
+dated_of m = dated m.place.number m.counter
 
 abbrev pub stamped : Bounded 1008 → ℕ → Stamped
 stamped p c = record { place = p; counter = c }
 
--- there are sixteen marks and sixteen counters
-abbrev pub Sixteens : Stamps → Type 0
-Sixteens s = (length s.marks ≡ 16) × (length s.counters ≡ 16)
-
 abbrev pub version_state : Stamps → Versioned
-version_state s = versioned (map (option_map seen_of) s.marks) s.counters
+version_state s = versioned (map (option_map dated_of) s.marks) s.counters
 
 -- no seat has a mark, and all counters are n
 abbrev pub version_new : ℕ → Versioned
@@ -49,14 +45,14 @@ counter_of counters p = slice_index counters (slot p)
 
 -- seat t marks place p, with the counter of its slot
 abbrev pub version_reserve : Versioned → ℕ → ℕ → Versioned
-version_reserve s t p = versioned (slice_set s.marks t (Some (seen p (counter_of s.counters p)))) s.counters
+version_reserve s t p = versioned (slice_set s.marks t (Some (dated p (counter_of s.counters p)))) s.counters
 
 -- seat t has no mark
 abbrev pub version_release : Versioned → ℕ → Versioned
 version_release s t = versioned (slice_set s.marks t None) s.counters
 
 -- whether a mark is kept in slot k
-abbrev pub kept_in : ℕ → Option Seen → Bool
+abbrev pub kept_in : ℕ → Option Dated → Bool
 kept_in k None = false
 kept_in k (Some m) = slot m.place == k
 
@@ -78,7 +74,7 @@ version_act (reserve t p) s = version_reserve s t p
 version_act (revoke p) s = version_revoke s p
 
 -- the mark, if there is one and the counter of its slot is still the one it keeps
-abbrev pub if_current : List ℕ → Option Seen → Option ℕ
+abbrev pub if_current : List ℕ → Option Dated → Option ℕ
 if_current counters None = None
 if_current counters (Some m) = cond (counter_of counters m.place == m.counter) (Some m.place) None
 
@@ -86,5 +82,5 @@ abbrev pub version_get : Versioned → Table
 version_get s t = if_current s.counters (slice_index_or s.marks t None)
 
 -- no mark keeps a counter that its slot has yet to reach, so no counter that goes up brings a mark back
-abbrev pub Sound : Versioned → Type 0
-Sound s = (u p c : ℕ) → slice_index_or s.marks u None ≡ Some (seen p c) → c ≤ counter_of s.counters p
+abbrev pub NoneAhead : Versioned → Type 0
+NoneAhead s = (u p c : ℕ) → slice_index_or s.marks u None ≡ Some (dated p c) → c ≤ counter_of s.counters p

@@ -4,18 +4,17 @@ ghost use Rattle.marks.specs.Carried.{ActsBy};
 ghost use Rattle.marks.specs.Marks.{Unmarked};
 ghost use Rattle.schemes.specs.Full.{full_state, full_new, full_act, full_get};
 
-use crate::clearing::clear_where;
-use marks::scheme::{Scheme, Strict};
 use basis::bounded::{Place, Seat};
+use marks::scheme::{Scheme, Strict};
 
-// The place that each seat has marked, or none.
+/// The place that each seat has marked, or none.
 #[derive(Drop)]
 pub struct Full {
     marks: [Option<Place>; 16],
 }
 
 impl Full {
-    // No seat has a mark.
+    /// No seat has a mark.
     pub fn new() -> Full
         ensures table { Unmarked (full_get (full_state result)) }
         ensures exact { full_state result ≡ full_new }
@@ -39,9 +38,13 @@ impl Scheme for Full {
         self.marks[t.index()] = None;
     }
 
-    // Clears each of the sixteen marks that stands on place p.
+    // Goes through all sixteen marks, and clears each that stands on place p.
     fn revoke(&mut self, p: Place) {
-        clear_where(&mut self.marks, |mark| mark == Some(p));
+        for mark in self.marks.iter_mut() {
+            if *mark == Some(p) {
+                *mark = None;
+            }
+        }
     }
 
     fn get(&self, t: Seat) -> Option<Place> {

@@ -1,7 +1,6 @@
 // The schemes of marks: full, owner, version and pairs of schemes, and the spread of the places over slots.
 #![tactic(auto)]
 
-mod clearing;
 pub mod full;
 pub mod owner;
 pub mod pair;

@@ -5,11 +5,11 @@ ghost use Rattle.marks.specs.Carried.{ActsBy};
 ghost use Rattle.marks.specs.Marks.{Unmarked};
 ghost use Rattle.schemes.specs.Owner.{owner_state, owner_new, owner_act, owner_get};
 
-use marks::scheme::Scheme;
 use crate::spread::slot_of;
 use basis::bounded::{Place, Seat};
+use marks::scheme::Scheme;
 
-// The place that each seat has marked, or none, and the seat that owns each slot, or nobody.
+/// The place that each seat has marked, or none, and the seat that owns each slot, or nobody.
 #[derive(Drop)]
 pub struct Owner {
     marks: [Option<Place>; 16],
@@ -17,7 +17,7 @@ pub struct Owner {
 }
 
 impl Owner {
-    // No seat has a mark, and nobody owns a slot.
+    /// No seat has a mark, and nobody owns a slot.
     pub fn new() -> Owner
         ensures table { Unmarked (owner_get (owner_state result)) }
         ensures exact { owner_state result ≡ owner_new }

@@ -2,10 +2,10 @@
 ghost use Rattle.std.specs.Prelude.{◌≡◌, ◌&&◌};
 ghost use Rattle.schemes.specs.Pair.{uses_second, banked, paired, pair_table, pair_acts};
 
-use marks::scheme::{Scheme, Strict};
 use basis::bounded::{BankBit, Place, Seat};
+use marks::scheme::{Scheme, Strict};
 
-// Seats in whose number that bit is 0 use the first scheme, the others the second.
+/// Seats in whose number that bit is 0 use the first scheme, the others the second.
 #[derive(Drop)]
 pub struct Pair<F, S> {
     first: F,
@@ -21,7 +21,7 @@ fn uses_second(bit: BankBit, t: Seat) -> bool
 }
 
 impl<F: Scheme, S: Scheme> Pair<F, S> {
-    // The two schemes as they are.
+    /// The two schemes as they are.
     pub fn new(first: F, second: S, bit: BankBit) -> Pair<F, S>
         ensures table { pair_table F.Scheme.table S.Scheme.table result ≡ banked bit.number (F.Scheme.table first) (S.Scheme.table second) }
         ensures exact { result ≡ paired first second bit }

@@ -13,7 +13,7 @@ fn spread_entry(n: usize) -> u8
     SPREAD[n]
 }
 
-// The slot of place p, one of sixteen. Places with the same slot share what is kept there.
+/// The slot of place p, one of sixteen. Places with the same slot share what is kept there.
 pub fn slot_of(p: Place) -> usize
     ensures value { result ≡ slot p.number }
     ensures below { result < 16 }

@@ -5,36 +5,36 @@ ghost use Rattle.std.specs.Option.{option_map};
 ghost use Rattle.marks.specs.Carried.{ActsBy};
 ghost use Rattle.marks.specs.Marks.{Unmarked};
 ghost use Rattle.schemes.specs.Clearing.{cleared};
-ghost use Rattle.schemes.specs.Version.{Sixteens, Sound, seen_of, kept_in, version_state, version_new, version_revoke, version_act, version_get};
+ghost use Rattle.schemes.specs.Spread.{Sixteens};
+ghost use Rattle.schemes.specs.Version.{NoneAhead, dated_of, kept_in, version_state, version_new, version_revoke, version_act, version_get};
 
-use crate::clearing::clear_where;
-use marks::scheme::Scheme;
 use crate::spread::slot_of;
 use basis::bounded::{Place, Seat};
+use marks::scheme::Scheme;
 
-// A mark, and the counter of its place's slot when it was made.
+/// A mark, and the counter of its place's slot when it was made.
 #[derive(Clone, Copy, PartialEq, Eq, Debug)]
 pub struct Stamped {
     place: Place,
     counter: u32,
 }
 
-// The mark of each seat, or none, and the counter of each slot.
+/// The mark of each seat, or none, and the counter of each slot.
 #[derive(Drop)]
 pub struct Stamps {
     marks: [Option<Stamped>; 16],
     counters: [u32; 16],
 }
 
-// The same, with no mark that a counter could bring back.
+/// The same, with no mark that a counter could bring back.
 #[derive(Drop)]
 pub struct Version {
     kept: Stamps,
-    ghost sound: { Sound (version_state kept) },
+    ghost none_ahead: { NoneAhead (version_state kept) },
 }
 
 impl Version {
-    // No seat has a mark, and all counters are `start`.
+    /// No seat has a mark, and all counters are `start`.
     pub fn new(start: u32) -> Version
         ensures table { Unmarked (version_get (version_state result.kept)) }
         ensures exact { version_state result.kept ≡ version_new start }
@@ -54,7 +54,7 @@ impl Stamps {
     // The counter of that slot goes one up.
     fn raise(&mut self, slot: usize)
         requires { (slot < 16) × (slice_index self.old.counters slot < 4294967295) }
-        ensures sixteen { Sixteens self.old }
+        ensures sixteen { Sixteens self.old.marks self.old.counters }
         ensures marks { self.new.marks ≡ self.old.marks }
         ensures counters { self.new.counters ≡ slice_set self.old.counters slot (slice_index self.old.counters slot + 1) }
     {
@@ -64,19 +64,21 @@ impl Stamps {
     // The counter of that slot goes to 0, and all marks kept in the slot are cleared.
     fn restart(&mut self, slot: usize)
         requires { slot < 16 }
-        ensures sixteen { Sixteens self.old }
-        ensures marks { self.new.marks ≡ cleared (λ m. kept_in slot (option_map seen_of m)) self.old.marks }
+        ensures sixteen { Sixteens self.old.marks self.old.counters }
+        ensures marks { self.new.marks ≡ cleared (λ m. kept_in slot (option_map dated_of m)) self.old.marks }
         ensures counters { self.new.counters ≡ slice_set self.old.counters slot 0 }
     {
         self.counters[slot] = 0;
-        clear_where(&mut self.marks, |mark| {
-            mark.is_some_and(|m| slot_of(m.place) == slot)
-        });
+        for mark in self.marks.iter_mut() {
+            if mark.is_some_and(|m| slot_of(m.place) == slot) {
+                *mark = None;
+            }
+        }
     }
 
     // One more revoke of place p is counted.
     fn count_revoke(&mut self, p: Place)
-        ensures sixteen { Sixteens self.old }
+        ensures sixteen { Sixteens self.old.marks self.old.counters }
         ensures exact { version_state self.new ≡ version_revoke (version_state self.old) p.number }
     {
         let slot = slot_of(p);

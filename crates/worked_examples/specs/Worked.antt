@@ -1,113 +1,156 @@
 -- Worked runs on sectors and the full scheme: three cells, window 2, seats 0 and 1; and window 1, where the bound is met exactly.
 -- Assumes nothing.
-use Rattle.std.specs.Prelude.{◌≡◌, ℕ, suc, ◌+◌, ◌*◌, ◌/◌, Bool, true, List, [], ◌∷◌, ◌++◌, replicate, Some, None, Option, nat_lt}
+use Rattle.std.specs.Prelude.{◌≡◌, ℕ, ◌+◌, List, [], ◌∷◌, ◌++◌, Some, None, Option, true}
 use Rattle.std.specs.List.{slice_get}
+use Rattle.basis.specs.declared.kind.Kind.{Kind}
 use Rattle.basis.specs.declared.kind.Kind.TheVariants.{Lookup, Insert, Remove}
 use Rattle.basis.specs.declared.answer.Answer.{Answer}
 use Rattle.basis.specs.declared.answer.Answer.TheVariants.{No, Yes, Wait, Full}
 use Rattle.key_types.specs.declared.sector.Sector.{Sector}
-use Rattle.marks.specs.Meaning.{Order}
 use Rattle.key_types.specs.Sector.{sector, sector_below}
+use Rattle.marks.specs.Meaning.{Order}
+use Rattle.marks.specs.Carried.{ActsBy}
 use Rattle.schemes.specs.Full.{full_new, full_act, full_get}
 use Rattle.ledger.specs.Ledger.{What, join, begin, step}
-use Rattle.ledger.specs.Law.{Event, Index, Run, count, steps_of, ends_of}
-use Rattle.list_law.specs.Call.{Cell, cell, away, State}
-use Rattle.list_law.specs.Runs.{chained}
+use Rattle.ledger.specs.Law.{Event, Index, Run, count, changes, steps_of, ends_of}
+use Rattle.list_law.specs.Call.{Cell, cell, State}
 use Rattle.list_law.specs.Law.{list_index, Law, Windows}
+use Rattle.list_law.specs.Making.{made_of}
 use Rattle.list_law.specs.Performed.{Ask, after, events, answers}
+use Rattle.list_law.specs.Continued.{limit}
 
 -- the marks of the full scheme, by numbers
-abbrev pub Marks : Type 0
-Marks = List (Option ℕ)
+abbrev pub FullMarks : Type 0
+FullMarks = List (Option ℕ)
 
 -- what the full scheme makes of an order, exactly
-abbrev pub full_acts : Order → Marks → Marks → Type 0
-full_acts o a b = b ≡ full_act o a
+abbrev pub full_acts : Order → FullMarks → FullMarks → Type 0
+full_acts = ActsBy (λ ms. ms) full_act
 
 -- the index on sectors over the full scheme
-abbrev pub index : Index Sector
-index = list_index sector_below full_get true full_acts
+abbrev pub sectors_over_full : Index Sector
+sectors_over_full = list_index sector_below full_get true full_acts
 
--- three cells as given, made with a window
-abbrev pub begun : Cell Sector → Cell Sector → Cell Sector → ℕ → State Sector Marks
-begun a b c w = record {
-  cells = chained 0 (a ∷ (b ∷ (c ∷ [])));
-  rows = replicate 16 away;
-  anchor = record { count = 3; window = w; head = None; free = Some 0 };
-  marks = full_new;
-}
+-- what a making over three given cells with this window leaves
+abbrev pub three_cells : Cell Sector → Cell Sector → Cell Sector → ℕ → State Sector FullMarks
+three_cells a b c w = made_of (a ∷ (b ∷ (c ∷ []))) w full_new
 
--- calls made one after another on such an index: the state, the events and the answers
-abbrev pub state_after : State Sector Marks → List (Ask Sector) → State Sector Marks
+-- calls made one after another on such an index: the state, the events (newest first) and the answers (in order)
+abbrev pub state_after : State Sector FullMarks → List (Ask Sector) → State Sector FullMarks
 state_after = after sector_below full_get full_act
 
-abbrev pub events_of : State Sector Marks → List (Ask Sector) → List (Event Sector)
+abbrev pub events_of : State Sector FullMarks → List (Ask Sector) → List (Event Sector)
 events_of = events sector_below full_get full_act
 
-abbrev pub answers_of : State Sector Marks → List (Ask Sector) → List Answer
+abbrev pub answers_of : State Sector FullMarks → List (Ask Sector) → List Answer
 answers_of = answers sector_below full_get full_act
 
 -- seat t asks, with interrupts open
-abbrev pub asks : ℕ → What Sector → Ask Sector
-asks t what = record { seat = t; level = 0; what = what }
+abbrev pub by_seat : ℕ → What Sector → Ask Sector
+by_seat t what = record { seat = t; level = 0; what = what }
+
+-- seat t begins an operation of this kind on this sector
+abbrev pub begins_on : ℕ → Kind → ℕ → Ask Sector
+begins_on t kind n = by_seat t (begin kind (sector n))
 
 -- seat 0 inserts 10, 20, 30, 40 and 20 again; then seat 1 begins a lookup of 30
-abbrev pub preparing : List (Ask Sector)
-preparing =
-    asks 0 join
-    ∷ asks 0 (begin Insert (sector 10)) ∷ asks 0 step
-    ∷ asks 0 (begin Insert (sector 20)) ∷ asks 0 step
-    ∷ asks 0 (begin Insert (sector 30)) ∷ asks 0 step ∷ asks 0 step
-    ∷ asks 0 (begin Insert (sector 40)) ∷ asks 0 step ∷ asks 0 step
-    ∷ asks 0 (begin Insert (sector 20)) ∷ asks 0 step
-    ∷ asks 1 join ∷ asks 1 (begin Lookup (sector 30)) ∷ []
+abbrev pub until_the_lookup : List (Ask Sector)
+until_the_lookup =
+    by_seat 0 join
+    ∷ begins_on 0 Insert 10 ∷ by_seat 0 step
+    ∷ begins_on 0 Insert 20 ∷ by_seat 0 step
+    ∷ begins_on 0 Insert 30 ∷ by_seat 0 step ∷ by_seat 0 step
+    ∷ begins_on 0 Insert 40 ∷ by_seat 0 step ∷ by_seat 0 step
+    ∷ begins_on 0 Insert 20 ∷ by_seat 0 step
+    ∷ by_seat 1 join ∷ begins_on 1 Lookup 30 ∷ []
 
 -- and waits
-abbrev pub opening : List (Ask Sector)
-opening = preparing ++ asks 1 step ∷ []
+abbrev pub until_the_wait : List (Ask Sector)
+until_the_wait = until_the_lookup ++ by_seat 1 step ∷ []
 
--- seat 0 removes 20, on which seat 1 stands; seat 1 goes on; seat 0 inserts 25
-abbrev pub closing : List (Ask Sector)
-closing =
-    asks 0 (begin Remove (sector 20)) ∷ asks 0 step
-    ∷ asks 1 step
-    ∷ asks 0 (begin Insert (sector 25)) ∷ asks 0 step ∷ []
+-- seat 0 removes 20, on which seat 1 stands
+abbrev pub the_removal : List (Ask Sector)
+the_removal = begins_on 0 Remove 20 ∷ by_seat 0 step ∷ []
+
+abbrev pub until_the_removal : List (Ask Sector)
+until_the_removal = until_the_wait ++ the_removal
+
+-- seat 1 goes on; seat 0 inserts 25
+abbrev pub since_the_removal : List (Ask Sector)
+since_the_removal = by_seat 1 step ∷ begins_on 0 Insert 25 ∷ by_seat 0 step ∷ []
+
+-- the run with window 2, over any three given cells: where seat 1 waits its mark is on `place`, which is removed and then used again
+pub record PlaceUsedAgain (a b c : Cell Sector) (place : ℕ) : Type 0 where
+  pub run : Run sectors_over_full 3 2 (events_of (three_cells a b c 2) (until_the_removal ++ since_the_removal))
+      (state_after (three_cells a b c 2) (until_the_removal ++ since_the_removal))
+  pub answers : answers_of (three_cells a b c 2) until_the_wait ≡
+      Answer.Ok
+      ∷ Answer.Ok ∷ Yes
+      ∷ Answer.Ok ∷ Yes
+      ∷ Answer.Ok ∷ Wait ∷ Yes
+      ∷ Answer.Ok ∷ Wait ∷ Full
+      ∷ Answer.Ok ∷ No
+      ∷ Answer.Ok ∷ Answer.Ok ∷ Wait ∷ []
+  pub marked : full_get (state_after (three_cells a b c 2) until_the_wait).marks 1 ≡ Some place
+  -- the removal strikes that mark, and seat 1 has its answer all the same
+  pub removed : answers_of (state_after (three_cells a b c 2) until_the_wait) the_removal ≡ Answer.Ok ∷ Yes ∷ []
+  pub struck : full_get (state_after (three_cells a b c 2) until_the_removal).marks 1 ≡ None
+  pub answers_since : answers_of (state_after (three_cells a b c 2) until_the_removal) since_the_removal ≡
+      Yes
+      ∷ Answer.Ok ∷ Yes ∷ []
+  -- the place is the new key's, between those of 10 and 30
+  pub placed : slice_get (state_after (three_cells a b c 2) (until_the_removal ++ since_the_removal)).cells place ≡
+      Some (cell (sector 25) (Some 2) true)
 
 -- with window 1: seat 0 inserts 10, 20 and 30
-abbrev pub inserting : List (Ask Sector)
-inserting =
-    asks 0 join
-    ∷ asks 0 (begin Insert (sector 10)) ∷ asks 0 step
-    ∷ asks 0 (begin Insert (sector 20)) ∷ asks 0 step ∷ asks 0 step
-    ∷ asks 0 (begin Insert (sector 30)) ∷ asks 0 step ∷ asks 0 step ∷ asks 0 step ∷ []
+abbrev pub three_inserts : List (Ask Sector)
+three_inserts =
+    by_seat 0 join
+    ∷ begins_on 0 Insert 10 ∷ by_seat 0 step
+    ∷ begins_on 0 Insert 20 ∷ by_seat 0 step ∷ by_seat 0 step
+    ∷ begins_on 0 Insert 30 ∷ by_seat 0 step ∷ by_seat 0 step ∷ by_seat 0 step ∷ []
 
 -- and begins a lookup of 40
-abbrev pub filling : List (Ask Sector)
-filling = inserting ++ asks 0 (begin Lookup (sector 40)) ∷ []
+abbrev pub until_the_last_lookup : List (Ask Sector)
+until_the_last_lookup = three_inserts ++ begins_on 0 Lookup 40 ∷ []
 
--- three steps of that lookup, and one more
-abbrev pub waiting : List (Ask Sector)
-waiting = asks 0 step ∷ asks 0 step ∷ asks 0 step ∷ []
+-- three steps of that lookup, and four
+abbrev pub three_steps : List (Ask Sector)
+three_steps = by_seat 0 step ∷ by_seat 0 step ∷ by_seat 0 step ∷ []
 
-abbrev pub deciding : List (Ask Sector)
-deciding = waiting ++ asks 0 step ∷ []
+abbrev pub four_steps : List (Ask Sector)
+four_steps = three_steps ++ by_seat 0 step ∷ []
 
--- the runs, over any three given cells: the place that seat 1 has marked after the opening, and the steps of the last lookup
-pub record Worked (a b c : Cell Sector) (place steps : ℕ) : Type 0 where
-  pub run : Run index 3 2 (events_of (begun a b c 2) (opening ++ closing)) (state_after (begun a b c 2) (opening ++ closing))
-  pub opens : answers_of (begun a b c 2) opening
-      ≡ Answer.Ok ∷ Answer.Ok ∷ Yes ∷ Answer.Ok ∷ Yes ∷ Answer.Ok ∷ Wait ∷ Yes ∷ Answer.Ok ∷ Wait ∷ Full ∷ Answer.Ok ∷ No ∷ Answer.Ok ∷ Answer.Ok ∷ Wait ∷ []
-  pub marked : full_get (state_after (begun a b c 2) opening).marks 1 ≡ Some place
-  pub closes : answers_of (state_after (begun a b c 2) opening) closing ≡ Answer.Ok ∷ Yes ∷ Yes ∷ Answer.Ok ∷ Yes ∷ []
-  pub placed : slice_get (state_after (begun a b c 2) (opening ++ closing)).cells place ≡ Some (cell (sector 25) (Some 2) true)
-  pub narrow_run : Run index 3 1 (events_of (begun a b c 1) (filling ++ deciding)) (state_after (begun a b c 1) (filling ++ deciding))
-  pub narrow : answers_of (begun a b c 1) (filling ++ deciding)
-      ≡ Answer.Ok ∷ Answer.Ok ∷ Yes ∷ Answer.Ok ∷ Wait ∷ Yes ∷ Answer.Ok ∷ Wait ∷ Wait ∷ Yes ∷ Answer.Ok ∷ Wait ∷ Wait ∷ Wait ∷ No ∷ []
-  -- three steps have not answered, and the fourth, which the bound allows, has
-  pub pending : count (ends_of 0) (events_of (state_after (begun a b c 1) filling) waiting) ≡ 0
-  pub ended : count (ends_of 0) (events_of (state_after (begun a b c 1) filling) deciding) ≡ 1
-  pub exact : count (steps_of 0) (events_of (state_after (begun a b c 1) filling) deciding) ≡ steps
-  pub bound : suc 0 * (3 / 1) + 1 ≡ steps
+-- the events of the index with window 1 up to the begin of that lookup, and those of steps after it
+abbrev pub begun_events : Cell Sector → Cell Sector → Cell Sector → List (Event Sector)
+begun_events a b c = events_of (three_cells a b c 1) until_the_last_lookup
+
+abbrev pub later_events : Cell Sector → Cell Sector → Cell Sector → List (Ask Sector) → List (Event Sector)
+later_events a b c steps = events_of (state_after (three_cells a b c 1) until_the_last_lookup) steps
+
+-- how many steps the law allows seat 0's lookup, by the changes of others among its later events
+abbrev pub allowed : List (Event Sector) → List (Event Sector) → ℕ
+allowed later earlier = limit 3 1 0 Lookup (changes sector_below 3 0 later earlier)
+
+-- the run with window 1, over any three given cells: the lookup answers no at its last allowed step, which is step number `steps`
+pub record BoundMet (a b c : Cell Sector) (steps : ℕ) : Type 0 where
+  pub run : Run sectors_over_full 3 1 (later_events a b c four_steps ++ begun_events a b c)
+      (state_after (three_cells a b c 1) (until_the_last_lookup ++ four_steps))
+  pub answers : answers_of (three_cells a b c 1) (until_the_last_lookup ++ four_steps) ≡
+      Answer.Ok
+      ∷ Answer.Ok ∷ Yes
+      ∷ Answer.Ok ∷ Wait ∷ Yes
+      ∷ Answer.Ok ∷ Wait ∷ Wait ∷ Yes
+      ∷ Answer.Ok ∷ Wait ∷ Wait ∷ Wait ∷ No ∷ []
+  -- one step fewer has not answered
+  pub one_fewer : count (steps_of 0) (later_events a b c three_steps) + 1 ≡
+      allowed (later_events a b c three_steps) (begun_events a b c)
+  pub pending : count (ends_of 0) (later_events a b c three_steps) ≡ 0
+  -- as many as are allowed have
+  pub met : count (steps_of 0) (later_events a b c four_steps) ≡
+      allowed (later_events a b c four_steps) (begun_events a b c)
+  pub ended : count (ends_of 0) (later_events a b c four_steps) ≡ 1
+  pub number : count (steps_of 0) (later_events a b c four_steps) ≡ steps
 
 -- no promise could be stronger: not the bound by one step, not the width by one cell, not the mark by one place
 pub record Sharp (less : ℕ → ℕ → ℕ → ℕ) (wider : ℕ → ℕ) (next : ℕ → ℕ) : Type 0 where

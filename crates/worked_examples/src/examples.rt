@@ -1,18 +1,17 @@
-// The worked examples, as contracts.
+// The worked examples as one theorem, and that no promise could be stronger.
 ghost use Rattle.std.specs.Prelude.{suc, ◌+◌, ◌*◌, ◌/◌};
-ghost use Rattle.key_types.specs.declared.sector.Sector.{Sector};
-ghost use Rattle.list_law.specs.Call.{Cell};
-ghost use Rattle.worked_examples.specs.Worked.{Worked, Sharp};
+ghost use Rattle.worked_examples.specs.Worked.{Sharp};
 ghost use Rattle.worked_examples.specs.Examples.{Examples};
 
 use crate::proved;
 
-// Worked runs on three cells: a mark at place 1 is struck and the place is used again; with window 1 a lookup takes 4 steps,
-// which is the bound.
-pub fn worked_runs() -> u8
-    ensures { (a b c : Cell Sector) → Worked a b c 1 4 }
+// Runs on three cells over the full scheme: with window 2 a mark on place 1 is struck by a removal and the place is used again; with
+// window 1 a lookup takes 4 steps, as many as the bound allows. Seat 0's mark in the owner scheme is lost to seat 1, the version's
+// counter starts again, places 3 and 19 share slot 5, and of two wear keys the one with the lower count is below.
+pub fn worked_examples() -> u8
+    ensures { Examples 1 4 5 }
 {
-    proved::worked_runs()
+    proved::worked_examples()
 }
 
 // None of these promises could be stronger: the bound by a step less, the width by a cell more, the mark by a place on.
@@ -20,11 +19,4 @@ pub fn promises_are_sharp() -> u8
     ensures { Sharp (λ n w k. suc k * (n / w)) (λ w. w + 1) (λ p. p + 1) }
 {
     proved::promises_are_sharp()
-}
-
-// The single facts of schemes and keys.
-pub fn examples_hold() -> u8
-    ensures { Examples }
-{
-    proved::examples_hold()
 }

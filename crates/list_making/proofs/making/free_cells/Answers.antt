@@ -1,8 +1,6 @@
 use Rattle.std.proofs.Common.{◌≡◌, false, map, length, set, get_or, sym, refl, ap, ◌∙◌, zero-add, add-one, arith}
 use Rattle.std.proofs.lemmas.List.{map-set, length-map}
-use Rattle.std.proofs.lemmas.Option.{slice_get-get_or}
 use Rattle.std.specs.List.{slice_get}
-use Rattle.std.specs.Option.{option_map}
 use Rattle.list_law.specs.Call.{cell}
 use Rattle.list_cells.specs.Views.{cell_of}
 use Rattle.list_making.specs.Chained.{next_number}
