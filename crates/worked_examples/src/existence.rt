@@ -24,3 +24,12 @@ pub fn runs_are_there_by_name<K: Key, F: Scheme, S: Scheme>() -> u8
 {
     proved::runs_are_there_by_name::<K, F, S>()
 }
+
+// And over full and owner side by side with version beside them: what is promised of two schemes, used twice.
+pub fn runs_are_there_over_a_pair_of_a_pair<K: Key>() -> u8
+    ensures { let it = ⟦<Pair<Pair<Full, Owner>, Version> as Scheme>⟧ in
+        ThereAreRuns K.Key.below it.table it.strict it.acts (pair_formed (pair_formed full_formed owner_formed) version_formed)
+        1008 64 }
+{
+    proved::runs_are_there_over_a_pair_of_a_pair::<K>()
+}

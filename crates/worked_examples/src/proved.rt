@@ -1,4 +1,5 @@
-// What examples.rt promises, as proved: the public functions there only cite these, so that an edit of a public clause is refused at that clause.
+// What examples.rt and existence.rt promise, as proved: the public functions there only cite these, so that an edit of a public clause is
+// refused at that clause.
 ghost use Rattle.std.specs.Prelude.{suc, ◌+◌, ◌*◌, ◌/◌, Bool};
 ghost use Rattle.worked_examples.specs.Worked.{Sharp};
 ghost use Rattle.worked_examples.specs.Examples.{Examples};
@@ -33,4 +34,13 @@ pub fn runs_are_there_by_name<K: Key, F: Scheme, S: Scheme>() -> u8
         ThereAreRuns K.Key.below it.table it.strict it.acts (pair_formed first second) 1008 64 }
 {
     0
+}
+
+pub fn runs_are_there_over_a_pair_of_a_pair<K: Key>() -> u8
+    ensures { let it = ⟦<Pair<Pair<Full, Owner>, Version> as Scheme>⟧ in
+        ThereAreRuns K.Key.below it.table it.strict it.acts (pair_formed (pair_formed full_formed owner_formed) version_formed)
+        1008 64 }
+{
+    runs_are_there_by_name::<K, Full, Owner>();
+    runs_are_there_by_name::<K, Pair<Full, Owner>, Version>()
 }
