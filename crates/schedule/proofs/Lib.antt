@@ -1,5 +1,6 @@
 pub mod Digits
 pub mod Cuts
+pub mod Places
 pub mod Writes
 pub mod Askings
 pub mod Trips

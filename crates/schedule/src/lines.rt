@@ -1,8 +1,9 @@
 // The lines that answer a schedule.
-ghost use Rattle.std.specs.Prelude.{◌≡◌, ◌+◌, ◌/◌, ◌%◌, ◌<◌, ◌≤◌, [], ◌∷◌, ◌++◌, IfOk, string_bytes, decimal};
+ghost use Rattle.std.specs.Prelude.{◌≡◌, ◌+◌, ◌/◌, ◌%◌, ◌<◌, ◌≤◌, ◌^◌, [], ◌∷◌, ◌++◌, length, IfOk, string_bytes, decimal};
 ghost use Rattle.basis.specs.Answers.{spoken};
-ghost use Rattle.schedule.specs.Lines.{line_of, lines_from, Adds};
+ghost use Rattle.schedule.specs.Lines.{line_text, lines_from, Adds};
 
+use crate::line::Line;
 use basis::answer::Answer;
 use basis::refusal::Refusal;
 use itoa::Buffer;
@@ -103,31 +104,40 @@ fn push_answer(text: &mut String, answer: Answer) -> Result<(), AllocError>
     }
 }
 
-// Adds the line of a record: its number, a space, the answer, and a line feed.
+// The line of a record by its number: nothing is allocated, and nothing fails.
 #[inline(always)]
-pub fn push_line(text: &mut String, number: usize, answer: Answer) -> Result<(), AllocError>
-    ensures { Adds (string_bytes text.old) (string_bytes text.new) result (line_of number answer) }
+pub fn line(number: u16, answer: Answer) -> Line
+    ensures { result ≡ record { number = number; answer = answer } }
 {
-    push_number(text, number)?;
-    push_answer(text, answer)
+    Line { number, answer }
 }
 
-// Adds the lines of answers one after another, the first with that number.
+// Adds a line. Where memory runs out, what stood before stays at the front of the text.
+#[inline(always)]
+pub fn push_line(text: &mut String, line: Line) -> Result<(), AllocError>
+    ensures { Adds (string_bytes text.old) (string_bytes text.new) result (line_text line) }
+{
+    push_number(text, usize::from(line.number))?;
+    push_answer(text, line.answer)
+}
+
+// Adds the lines of answers one after another, the first with that number. The number after the last has to be a line's number too.
 #[tactic(auto, using(std::proofs::lemmas::Grind::common_steps, crate::proofs::Numbered::lines_more), unfolding(crate::specs::Lines::lines_from))]
 pub fn push_lines(text: &mut String, first: u16, answers: &[Answer]) -> Result<(), AllocError>
+    requires { first + length answers.now < 2 ^ 16 }
     ensures { Adds (string_bytes text.old) (string_bytes text.new) result (lines_from first answers.now) }
 {
     for (index, answer) in answers.iter().enumerate() {
-        push_line(text, usize::from(first) + index, *answer)?;
+        push_line(text, line(first + index as u16, *answer))?;
     }
     Ok(())
 }
 
-// The line of a record: its number, a space, the answer, and a line feed.
-pub fn line(heap: Global, number: usize, answer: Answer) -> Result<String, AllocError>
-    ensures { IfOk result (λ text. string_bytes text ≡ line_of number answer) }
+// A text of one line.
+pub fn text_of_line(heap: Global, line: Line) -> Result<String, AllocError>
+    ensures { IfOk result (λ text. string_bytes text ≡ line_text line) }
 {
     let mut text = String::new(heap);
-    push_line(&mut text, number, answer)?;
+    push_line(&mut text, line)?;
     Ok(text)
 }
