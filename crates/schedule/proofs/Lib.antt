@@ -4,5 +4,6 @@ pub mod Places
 pub mod Writes
 pub mod Askings
 pub mod Trips
+pub mod Counted
 pub mod Numbered
 pub mod Sofar
