@@ -2,7 +2,6 @@
 use Rattle.std.specs.Prelude.{ℕ, ◌+◌, ◌*◌, ◌/◌, ◌%◌, ◌^◌, ◌<◌, Bool, true, false, cond, List, [], ◌∷◌, ◌++◌, length, Some, None, codes, decimal, Option, ◌==◌}
 use Rattle.std.specs.Option.{option_map}
 use Rattle.basis.specs.Cases.{Case, case_of}
-use Rattle.basis.specs.declared.kind.Kind.{Kind}
 use Rattle.basis.specs.declared.kind.Kind.TheVariants.{Lookup, Insert, Remove}
 use Rattle.records.specs.declared.record.SchemeName.{SchemeName}
 use Rattle.records.specs.declared.record.SchemeName.TheVariants.{Full, Owner, Version}

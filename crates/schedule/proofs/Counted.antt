@@ -1,11 +1,11 @@
 -- How many records a schedule has at most: each takes at least four bytes, and the first seven. Assumes nothing.
-use Rattle.std.proofs.Common.{◌≡◌, ℕ, zero, suc, ◌+◌, ◌*◌, ◌≤◌, Bool, true, false, cond, ltb, List, [], ◌∷◌, length, Some, None, Option, sym, refl, ap, ◌∙◌, subst, arith, true≢false}
+use Rattle.std.proofs.Common.{◌≡◌, ℕ, zero, suc, ◌+◌, ◌*◌, ◌≤◌, Bool, true, false, cond, ltb, List, [], ◌∷◌, length, Some, None, sym, refl, ◌∙◌, arith, true≢false}
 use Rattle.std.proofs.lemmas.Bool.{ltb-false}
 use Rattle.records.specs.declared.record.Record.{Record}
 use Rattle.records.specs.declared.record.Record.TheVariants.{Join, Leave, Step, Abandon}
 use Rattle.records.specs.Records.{is_setup, seat_call, decoded}
-use Rattle.schedule.specs.Reading.{ReadRecord, Reading, handed, ended, malformed, next_of, no_first_byte, open_refusal}
-use Rattle.schedule.specs.Schedules.{read_more, read_on, read_all, still, stop_lines, line_count, LineNumbers}
+use Rattle.schedule.specs.Reading.{Reading, handed, ended, malformed, next_of, no_first_byte, open_refusal}
+use Rattle.schedule.specs.Schedules.{read_more, read_on, still, stop_lines, LineNumbers}
 use Rattle.schedule.proofs.Writes.{tested, none_left}
 use Rattle.schedule.proofs.Askings.{next_handed}
 
@@ -52,7 +52,7 @@ unfolding read_on
 counted zero total rest h = omega (arith, one_line (next_of true total rest))
 counted (suc n) total rest h =
     elim (next_of true total rest) as (λ a. next_of true total rest ≡ a
-        → length (read_more (read_on n false total) rest a).entries + stop_lines (next_of (still true (read_more (read_on n false total) rest a).entries) total (read_more (read_on n false total) rest a).rest) ≤ 14999) [
+    → length (read_more (read_on n false total) rest a).entries + stop_lines (next_of (still true (read_more (read_on n false total) rest a).entries) total (read_more (read_on n false total) rest a).rest) ≤ 14999) [
       | handed x left ↦ λ is.
           let out = next_handed true total rest x left is in
           let on = read_on n false total left in

@@ -1,5 +1,5 @@
 -- What is opened is read from behind its first byte on.
-use Rattle.std.proofs.Common.{length, refl, arith, rules}
+use Rattle.std.proofs.Common.{refl, rules}
 use borrow.Author.Tests.{false-ltb}
 use Rattle.schedule.proofs.Cuts.{opened}
 use Rattle.schedule.proofs.Places.{behind_first}
