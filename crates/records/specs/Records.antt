@@ -2,7 +2,6 @@
 use Rattle.std.specs.Prelude.{ℕ, ◌+◌, ◌*◌, ◌/◌, ◌%◌, ◌^◌, ◌<◌, Bool, true, false, cond, List, [], ◌∷◌, ◌++◌, length, Some, None, codes, decimal, Option, ◌==◌}
 use Rattle.std.specs.Option.{option_map}
 use Rattle.basis.specs.Cases.{Case, case_of}
-use Rattle.basis.specs.declared.kind.Kind.{Kind}
 use Rattle.basis.specs.declared.kind.Kind.TheVariants.{Lookup, Insert, Remove}
 use Rattle.records.specs.declared.record.SchemeName.{SchemeName}
 use Rattle.records.specs.declared.record.SchemeName.TheVariants.{Full, Owner, Version}
@@ -15,18 +14,14 @@ scheme Full = case_of 1 (codes "full") []
 scheme Owner = case_of 2 (codes "owner") []
 scheme Version = case_of 3 (codes "version") []
 
--- a begin, by its kind: its call byte, its word and its values
-abbrev pub begin : Kind → List ℕ → Case
-begin Lookup vs = case_of 3 (codes "begin lookup") vs
-begin Insert vs = case_of 4 (codes "begin insert") vs
-begin Remove vs = case_of 5 (codes "begin remove") vs
-
--- a record: its call byte, its word and its values
+-- the records: number (the call byte), word and values of each
 abbrev pub said : Record → Case
 said (Setup s cells window) = case_of 0 (codes "setup") ((scheme s).number ∷ cells ∷ window ∷ [])
 said (Join seat) = case_of 1 (codes "join") (seat ∷ [])
 said (Leave seat) = case_of 2 (codes "leave") (seat ∷ [])
-said (Begin k seat sector) = begin k (seat ∷ sector ∷ [])
+said (Begin Lookup seat sector) = case_of 3 (codes "begin lookup") (seat ∷ sector ∷ [])
+said (Begin Insert seat sector) = case_of 4 (codes "begin insert") (seat ∷ sector ∷ [])
+said (Begin Remove seat sector) = case_of 5 (codes "begin remove") (seat ∷ sector ∷ [])
 said (Step seat) = case_of 6 (codes "step") (seat ∷ [])
 said (Abandon seat) = case_of 7 (codes "abandon") (seat ∷ [])
 
@@ -34,14 +29,18 @@ said (Abandon seat) = case_of 7 (codes "abandon") (seat ∷ [])
 abbrev pub named : List ℕ → ℕ → List ℕ
 named name n = codes ", " ++ (name ++ 32 ∷ decimal n)
 
--- a record, for a person: its word, and each value after its name
+-- what stands behind a record's word, for a person: each value after its name, and a setup's scheme before them
+abbrev pub details : Record → List ℕ
+details (Setup s cells window) = 32 ∷ ((scheme s).word ++ (named (codes "cells") cells ++ named (codes "window") window))
+details (Join seat) = named (codes "seat") seat
+details (Leave seat) = named (codes "seat") seat
+details (Begin k seat sector) = named (codes "seat") seat ++ named (codes "sector") sector
+details (Step seat) = named (codes "seat") seat
+details (Abandon seat) = named (codes "seat") seat
+
+-- a record, for a person
 abbrev pub described : Record → List ℕ
-described (Setup s cells window) = codes "setup " ++ ((scheme s).word ++ (named (codes "cells") cells ++ named (codes "window") window))
-described (Join seat) = codes "join" ++ named (codes "seat") seat
-described (Leave seat) = codes "leave" ++ named (codes "seat") seat
-described (Begin k seat sector) = (begin k []).word ++ (named (codes "seat") seat ++ named (codes "sector") sector)
-described (Step seat) = codes "step" ++ named (codes "seat") seat
-described (Abandon seat) = codes "abandon" ++ named (codes "seat") seat
+described r = (said r).word ++ details r
 
 -- whether a record is a setup, which has to be the first record and no other
 abbrev pub is_setup : Record → Bool
@@ -52,7 +51,10 @@ is_setup (Begin k seat sector) = false
 is_setup (Step seat) = false
 is_setup (Abandon seat) = false
 
--- a number in two bytes and in four, the highest first, and back
+-- a number in one byte, in two and in four, the highest first, and back
+abbrev pub one : ℕ → List ℕ
+one n = n ∷ []
+
 abbrev pub two : ℕ → List ℕ
 two n = n / 256 ∷ n % 256 ∷ []
 
@@ -65,14 +67,24 @@ from_two h l = h * 256 + l
 abbrev pub from_four : ℕ → ℕ → ℕ → ℕ → ℕ
 from_four a b c d = a * 16777216 + b * 65536 + c * 256 + d
 
--- the bytes of a record from its call byte on
+-- the bytes that each value of a record has, in the order of its values
+abbrev pub forms : Record → List (ℕ → List ℕ)
+forms (Setup s cells window) = one ∷ two ∷ one ∷ []
+forms (Join seat) = one ∷ []
+forms (Leave seat) = one ∷ []
+forms (Begin k seat sector) = one ∷ four ∷ []
+forms (Step seat) = one ∷ []
+forms (Abandon seat) = one ∷ []
+
+-- values one after another, each in its bytes
+abbrev pub in_forms : List (ℕ → List ℕ) → List ℕ → List ℕ
+in_forms [] vs = []
+in_forms (f ∷ fs) [] = []
+in_forms (f ∷ fs) (v ∷ vs) = f v ++ in_forms fs vs
+
+-- the bytes of a record from its call byte on: its number, and then its values
 abbrev pub fields : Record → List ℕ
-fields (Setup s cells window) = 0 ∷ (scheme s).number ∷ (two cells ++ window ∷ [])
-fields (Join seat) = 1 ∷ seat ∷ []
-fields (Leave seat) = 2 ∷ seat ∷ []
-fields (Begin k seat sector) = (begin k []).number ∷ seat ∷ four sector
-fields (Step seat) = 6 ∷ seat ∷ []
-fields (Abandon seat) = 7 ∷ seat ∷ []
+fields r = (said r).number ∷ in_forms (forms r) (said r).values
 
 -- the written form: the length of the fields in two bytes, then the fields
 abbrev pub written : Record → List ℕ

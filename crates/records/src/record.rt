@@ -1,8 +1,8 @@
 // What a record of a schedule says.
-ghost use Rattle.std.specs.Prelude.{◌≡◌, Some};
+ghost use Rattle.std.specs.Prelude.{◌≡◌, [], ◌∷◌, ◌++◌, Some, IfOk};
 ghost use Rattle.std.specs.Option.{ok_or};
 ghost use Rattle.basis.specs.declared.refusal.Refusal.TheVariants.{BadRecord};
-ghost use Rattle.records.specs.Records.{scheme, described, is_setup, scheme_named, seat_call, setup_call, begin_call, decoded};
+ghost use Rattle.records.specs.Records.{scheme, said, described, is_setup, two, four, fields, scheme_named, seat_call, setup_call, begin_call, decoded};
 
 use basis::kind::Kind;
 use basis::refusal::Refusal;
@@ -44,6 +44,17 @@ pub enum Record {
 }
 
 impl SchemeName {
+    // The number by which a setup names this scheme, 1 to 3.
+    pub fn number(self) -> u8
+        ensures { result ≡ (scheme self).number }
+    {
+        match self {
+            SchemeName::Full => 1,
+            SchemeName::Owner => 2,
+            SchemeName::Version => 3,
+        }
+    }
+
     // The scheme's name, for a person.
     pub fn word(self) -> &'static str
         ensures { result.now ≡ (scheme self).word }
@@ -68,7 +79,7 @@ impl fmt::Display for SchemeName {
 impl TryFrom<u8> for SchemeName {
     type Error = Refusal;
 
-    ghost try_from_gives = { λ number r. r ≡ ok_or (scheme_named number) BadRecord };
+    ghost try_from_gives = { λ number r. (r ≡ ok_or (scheme_named number) BadRecord) × IfOk r (λ s. (scheme s).number ≡ number) };
 
     // called and not inlined: one record in a schedule has a scheme
     #[inline(never)]
@@ -83,6 +94,24 @@ impl TryFrom<u8> for SchemeName {
 }
 
 impl Record {
+    // The number of this case, 0 to 7: the call byte.
+    pub fn number(self) -> u8
+        ensures { result ≡ (said self).number }
+    {
+        match self {
+            Record::Setup { .. } => 0,
+            Record::Join { .. } => 1,
+            Record::Leave { .. } => 2,
+            Record::Begin { kind, .. } => match kind {
+                Kind::Lookup => 3,
+                Kind::Insert => 4,
+                Kind::Remove => 5,
+            },
+            Record::Step { .. } => 6,
+            Record::Abandon { .. } => 7,
+        }
+    }
+
     // Whether this is a setup, which has to be the first record and no other.
     pub fn is_setup(self) -> bool
         ensures { result ≡ is_setup self }
@@ -93,7 +122,8 @@ impl Record {
 
 // The calls whose only field is a seat.
 fn seat_record(call: u8, seat: u8) -> Result<Record, Refusal>
-    ensures { result ≡ ok_or (seat_call call seat) BadRecord }
+    ensures answer { result ≡ ok_or (seat_call call seat) BadRecord }
+    ensures bytes { IfOk result (λ r. fields r ≡ call ∷ seat ∷ []) }
 {
     match call {
         1 => Ok(Record::Join { seat }),
@@ -105,7 +135,8 @@ fn seat_record(call: u8, seat: u8) -> Result<Record, Refusal>
 }
 
 fn setup_record(call: u8, number: u8, cells: u16, window: u8) -> Result<Record, Refusal>
-    ensures { result ≡ ok_or (setup_call call number cells window) BadRecord }
+    ensures answer { result ≡ ok_or (setup_call call number cells window) BadRecord }
+    ensures bytes { IfOk result (λ r. fields r ≡ call ∷ number ∷ (two cells ++ window ∷ [])) }
 {
     if call != 0 {
         return Err(Refusal::BadRecord);
@@ -119,7 +150,8 @@ fn setup_record(call: u8, number: u8, cells: u16, window: u8) -> Result<Record, 
 }
 
 fn begin_record(call: u8, seat: u8, sector: u32) -> Result<Record, Refusal>
-    ensures { result ≡ ok_or (begin_call call seat sector) BadRecord }
+    ensures answer { result ≡ ok_or (begin_call call seat sector) BadRecord }
+    ensures bytes { IfOk result (λ r. fields r ≡ call ∷ seat ∷ four sector) }
 {
     let kind = match call {
         3 => Kind::Lookup,
@@ -151,11 +183,11 @@ impl fmt::Display for Record {
     }
 }
 
-// What bytes say, from the call byte on; bytes that say no record are a bad record.
+// What bytes say, from the call byte on, and then they are that record's bytes; bytes that say no record are a bad record.
 impl TryFrom<&[u8]> for Record {
     type Error = Refusal;
 
-    ghost try_from_gives = { λ bytes r. r ≡ ok_or (decoded bytes.now) BadRecord };
+    ghost try_from_gives = { λ bytes r. (r ≡ ok_or (decoded bytes.now) BadRecord) × IfOk r (λ rec. fields rec ≡ bytes.now) };
 
     #[inline(always)]
     fn try_from(bytes: &[u8]) -> Result<Record, Refusal> {

@@ -14,7 +14,7 @@ use Rattle.schedule.specs.declared.reader.Part.{Part}
 use Rattle.schedule.specs.declared.reader.Reader.{Reader}
 use Rattle.schedule.specs.Reading.{ReadRecord, Reading, handed, ended, malformed, reading, next_of}
 use Rattle.schedule.specs.Schedules.{still, Stops}
-use Rattle.schedule.specs.Whole.{seen, stop_number}
+use Rattle.schedule.specs.Whole.{as_read, stop_number}
 use Rattle.schedule.proofs.Sofar.{Sofar, Gave, Stopped, sofar_more, sofar_all}
 use Rattle.replay.specs.declared.calls.Calls.{Calls}
 use Rattle.replay.specs.Answers.{asked_by, asks_of, setup_of, first_of}
@@ -44,10 +44,10 @@ taken_none bytes reader s e = record { records = []; sofar = s; first = refl; as
 pub taken_more : (bytes : List ℕ) (before : Reader) (p : Part) (after : Reader) {setup setup' : Option Record} {asks asks' : List (Ask Sector)}
     → Taken bytes before setup asks → Gave before p after → setup' ≡ first_of setup p.content → asks' ≡ asks ++ asked_by p.content → Taken bytes after setup' asks'
 taken_more bytes before p after t g e f = record {
-  records = t.records ++ seen p ∷ [];
+  records = t.records ++ as_read p ∷ [];
   sofar = sofar_more bytes t.records before p after t.sofar g;
-  first = e ∙ ap (λ o. first_of o p.content) t.first ∙ sym (setup_more t.records (seen p));
-  asked = f ∙ ap (λ l. l ++ asked_by p.content) t.asked ∙ sym (asks_more t.records (seen p));
+  first = e ∙ ap (λ o. first_of o p.content) t.first ∙ sym (setup_more t.records (as_read p));
+  asked = f ∙ ap (λ l. l ++ asked_by p.content) t.asked ∙ sym (asks_more t.records (as_read p));
 }
 
 -- the refusal at which reading stops, if there is one

@@ -13,7 +13,7 @@ use Rattle.replay.specs.declared.calls.Calls.{Calls}
 use Rattle.replay.specs.Answers.{asks_of}
 use Rattle.replay.specs.Texts.{outcomes, opened_text, text_of, Lawfully, Replayed}
 use Rattle.replay.specs.Views.{refused_by, Says}
-use Rattle.replay.proofs.Answering.{Told}
+use Rattle.replay.proofs.Answering.{TextAnswers}
 use Rattle.replay.proofs.Openings.{replay_begins}
 
 never_both : (n : ℕ) (o : Option ℕ) → o ≡ Some n → o ≡ None → ⊥
@@ -32,7 +32,7 @@ not_opened bytes text r e t =
     }
 
 -- bytes that are opened: the text is that of what they say
-pub opened : (bytes text : List ℕ) (c : Calls) → ((i : ℕ) → Fits w8 (get_or bytes i 0)) → open_refusal bytes ≡ None → Says bytes c → Told c.setup (map ask_of (vec_items c.asks)) (refused_by c.stop) text → Replayed bytes text
+pub opened : (bytes text : List ℕ) (c : Calls) → ((i : ℕ) → Fits w8 (get_or bytes i 0)) → open_refusal bytes ≡ None → Says bytes c → TextAnswers c.setup (map ask_of (vec_items c.asks)) (refused_by c.stop) text → Replayed bytes text
 unfolding text_of
 opened bytes text c typed e s t =
     let asks = map ask_of (vec_items c.asks) in

@@ -1,6 +1,6 @@
 -- What the opening of a schedule is answered: the refusal to open the bytes, or else the line of their first record. The text of the whole
 -- replay begins with it. Assumes nothing.
-use Rattle.std.specs.Prelude.{ℕ, Bool, cond, List, [], length, drop, true, Some, None, Option}
+use Rattle.std.specs.Prelude.{ℕ, cond, List, [], length, drop, true, Some, None, Option}
 use Rattle.basis.specs.declared.answer.Answer.{Answer}
 use Rattle.basis.specs.declared.answer.Answer.TheVariants.{Refused}
 use Rattle.basis.specs.declared.refusal.Refusal.TheVariants.{WrongSizes, BadRecord}

@@ -12,7 +12,7 @@ mod text;
 use crate::calls::read_calls;
 use crate::text::text_of;
 use basis::answer::Answer;
-use schedule::lines::line;
+use schedule::lines::{line, text_of_line};
 use std::alloc::{AllocError, Global};
 
 // The text that answers a schedule: a line for each record, until reading or the setup is refused. A schedule that is not opened is
@@ -22,6 +22,6 @@ pub fn replay(heap: Global, bytes: &[u8]) -> Result<String, AllocError>
 {
     match read_calls(heap, bytes)? {
         Ok(calls) => text_of(heap, calls),
-        Err(refusal) => line(heap, 0, Answer::Refused(refusal)),
+        Err(refusal) => text_of_line(heap, line(0, Answer::Refused(refusal))),
     }
 }

@@ -6,7 +6,7 @@ use basis::answer::Answer;
 use basis::refusal::Refusal;
 use list_window::sizes::sizes_fit;
 use records::record::Record;
-use schedule::lines::line;
+use schedule::lines::{line, text_of_line};
 use schedule::reader::Reader;
 use std::alloc::{AllocError, Global};
 
@@ -37,11 +37,11 @@ pub fn answer_opening(heap: Global, bytes: &[u8]) -> Result<String, AllocError>
 {
     let mut reader = match Reader::open(bytes) {
         Ok(reader) => reader,
-        Err(refusal) => return line(heap, 0, Answer::Refused(refusal)),
+        Err(refusal) => return text_of_line(heap, line(0, Answer::Refused(refusal))),
     };
     match reader.next() {
-        Ok(Some(part)) => line(heap, 1, setup_answer(part.content)),
+        Ok(Some(part)) => text_of_line(heap, line(1, setup_answer(part.content))),
         Ok(None) => Ok(String::new(heap)),
-        Err(refusal) => line(heap, 1, Answer::Refused(refusal)),
+        Err(refusal) => text_of_line(heap, line(1, Answer::Refused(refusal))),
     }
 }

@@ -15,11 +15,11 @@ use list_cells::cell::{Anchor, Cell};
 use list_driver::driver::{Ask, run_calls};
 use list_window::index::Index;
 use list_window::row::{Doing, Row};
+use marks::scheme::Scheme;
+use records::record::SchemeName;
 use schemes::full::Full;
 use schemes::owner::Owner;
-use marks::scheme::Scheme;
 use schemes::version::Version;
-use records::record::SchemeName;
 use std::alloc::{AllocError, Global};
 
 // So many cells, with nothing in them. It is called and not inlined: once for a schedule.

@@ -31,7 +31,7 @@ pub record Cut (rest bytes left : List ℕ) : Type 0 where
   pub whole : Bytes rest → (rest ≡ two (length bytes) ++ (bytes ++ left)) × Bytes bytes × Bytes left
   pub shorter : length left + length bytes + 2 ≡ length rest
 
-cut_some : (rest bytes left : List ℕ) → cut_of rest ≡ Some (bytes, left) → Cut rest bytes left
+pub cut_some : (rest bytes left : List ℕ) → cut_of rest ≡ Some (bytes, left) → Cut rest bytes left
 cut_some [] bytes left e = none_left e
 cut_some (high ∷ []) bytes left e = none_left e
 cut_some (high ∷ low ∷ rest) bytes left e = go (ltb (length rest) (from_two high low)) refl e

@@ -1,7 +1,9 @@
 pub mod Digits
 pub mod Cuts
+pub mod Places
 pub mod Writes
 pub mod Askings
 pub mod Trips
+pub mod Counted
 pub mod Numbered
 pub mod Sofar

@@ -1,7 +1,10 @@
 -- What the loop over a whole schedule keeps: the records so far, and what is still read of the bytes left, are all of it.
 -- Assumes nothing.
 use Rattle.std.proofs.Common.{◌≡◌, ℕ, zero, suc, ◌-◌, ◌<◌, ◌≤◌, Bool, true, false, List, [], ◌∷◌, ◌++◌, map, length, get_or, Some, None, Ok, Err, Option, Result, vec_items, sym, refl, ap, ◌∙◌, subst, append_assoc, append-nil, arith, w8, Fits}
-use Rattle.std.proofs.ByRecursion.{All-from_get_or}
+use Rattle.std.specs.Borrow.{Bor}
+use Rattle.std.specs.List.{AllByRecursion}
+use Rattle.std.proofs.ByRecursion.{All-append, All-from_get_or}
+use Rattle.std.proofs.lemmas.List.{map_push}
 use Rattle.std.specs.Option.{option_map}
 use Rattle.basis.specs.declared.refusal.Refusal.{Refusal}
 use Rattle.basis.specs.Cases.{Case}
@@ -9,9 +12,9 @@ use Rattle.basis.specs.Refusals.{refusal}
 use Rattle.schedule.specs.declared.reader.Part.{Part}
 use Rattle.schedule.specs.declared.reader.Reader.{Reader}
 use Rattle.schedule.specs.declared.contents.Contents.{Contents}
-use Rattle.schedule.specs.Reading.{ReadRecord, read_record, Reading, handed, ended, malformed, next_of, reading, outcome, due, content_due, left_after, first_after, Asked, open_refusal}
+use Rattle.schedule.specs.Reading.{ReadRecord, read_record, Reading, handed, ended, malformed, next_of, reading, outcome, due, content_due, left_after, first_after, Reads, Opened, Asked, open_refusal}
 use Rattle.schedule.specs.Schedules.{listing, read_more, read_on, read_all, still, Bytes, Stops}
-use Rattle.schedule.specs.Whole.{seen, stop_number, entries_of, refusal_of, stop_of, Holds}
+use Rattle.schedule.specs.Whole.{as_read, stop_number, entries_of, refusal_of, stop_of, PartOf, Holds}
 use Rattle.schedule.proofs.Askings.{next_handed}
 use Rattle.schedule.proofs.Trips.{nothing_lost}
 
@@ -21,7 +24,7 @@ bytes_typed bytes typed = All-from_get_or (λ b. b < 256) bytes 0 (λ i h. (type
 
 -- what the outcome of an asking says of the definition's
 pub record Gave (before : Reader) (p : Part) (after : Reader) : Type 0 where
-  pub is : reading before ≡ handed (seen p) after.rest.now
+  pub is : reading before ≡ handed (as_read p) after.rest.now
   pub total : after.total ≡ before.total
   pub first : after.first ≡ false
 
@@ -108,24 +111,24 @@ sofar_none bytes reader is total first = record {
 }
 
 -- one record more
-pub sofar_more : (bytes : List ℕ) (es : List ReadRecord) (before : Reader) (p : Part) (after : Reader) → Sofar bytes es before → Gave before p after → Sofar bytes (es ++ seen p ∷ []) after
+pub sofar_more : (bytes : List ℕ) (es : List ReadRecord) (before : Reader) (p : Part) (after : Reader) → Sofar bytes es before → Gave before p after → Sofar bytes (es ++ as_read p ∷ []) after
 unfolding read_on
 sofar_more bytes es before p after s g = go s.askings s.enough s.whole
   where
     shorter : length after.rest.now < length before.rest.now
-    shorter = omega (arith, (next_handed before.first before.total before.rest.now (seen p) after.rest.now g.is).shorter)
+    shorter = omega (arith, (next_handed before.first before.total before.rest.now (as_read p) after.rest.now g.is).shorter)
 
-    go : (n : ℕ) → length before.rest.now ≤ n → read_all bytes ≡ listing (es ++ (read_on n before.first before.total before.rest.now).entries) (read_on n before.first before.total before.rest.now).rest → Sofar bytes (es ++ seen p ∷ []) after
+    go : (n : ℕ) → length before.rest.now ≤ n → read_all bytes ≡ listing (es ++ (read_on n before.first before.total before.rest.now).entries) (read_on n before.first before.total before.rest.now).rest → Sofar bytes (es ++ as_read p ∷ []) after
     go zero h w = absurd (omega (arith, shorter))
     go (suc n) h w =
         let on = read_on n after.first after.total after.rest.now in
-        let read : read_on (suc n) before.first before.total before.rest.now ≡ listing (seen p ∷ on.entries) on.rest = ap (read_more (read_on n false before.total) before.rest.now) g.is ∙ (λ i. listing (seen p ∷ (read_on n (sym g.first i) (sym g.total i) after.rest.now).entries) (read_on n (sym g.first i) (sym g.total i) after.rest.now).rest) in
+        let read : read_on (suc n) before.first before.total before.rest.now ≡ listing (as_read p ∷ on.entries) on.rest = ap (read_more (read_on n false before.total) before.rest.now) g.is ∙ (λ i. listing (as_read p ∷ (read_on n (sym g.first i) (sym g.total i) after.rest.now).entries) (read_on n (sym g.first i) (sym g.total i) after.rest.now).rest) in
         record {
           total = g.total ∙ s.total;
-          first = g.first ∙ sym (still_after es (seen p));
+          first = g.first ∙ sym (still_after es (as_read p));
           askings = n;
           enough = omega (arith, shorter);
-          whole = w ∙ (λ i. listing (es ++ (read i).entries) (read i).rest) ∙ ap (λ l. listing l on.rest) (sym (append_assoc es (seen p ∷ []) on.entries));
+          whole = w ∙ (λ i. listing (es ++ (read i).entries) (read i).rest) ∙ ap (λ l. listing l on.rest) (sym (append_assoc es (as_read p ∷ []) on.entries));
         }
 
 -- where no record is handed out, the records so far are all, and the bytes left are where reading stops
@@ -144,14 +147,40 @@ sofar_all bytes es reader s stops =
     let none = stopped s.askings reader.first reader.total reader.rest.now stops in
     s.whole ∙ (λ i. listing (es ++ (none i).entries) (none i).rest) ∙ ap (λ l. listing l reader.rest.now) (append-nil es)
 
+-- the parts that were handed out so far, of whatever schedule the reader read at the start
+pub record Filled (bytes : List ℕ) (start : Reader) (ps : List Part) (reader : Reader) : Type 0 where
+  pub sofar : Sofar bytes (map as_read ps) reader
+  pub lie : (schedule : Bor (List ℕ)) → Reads schedule start → Reads schedule reader × AllByRecursion (PartOf schedule) ps
+
+pub filled_none : (schedule : Bor (List ℕ)) (ps : List Part) (reader : Reader) → ps ≡ [] → Opened schedule reader → Filled schedule.now reader ps reader
+filled_none schedule ps reader none o = subst (λ ps. Filled schedule.now reader ps reader) (sym none) (record {
+  sofar = sofar_none schedule.now reader o.begins o.total o.first;
+  lie = λ schedule reads. (reads, tt);
+})
+
+pub filled_more : (bytes : List ℕ) (start : Reader) (ps ps' : List Part) (before : Reader) {r : Result (Option Part) Refusal} (p : Part) (after : Reader) → ps' ≡ ps ++ p ∷ [] → r ≡ Ok (Some p) → Filled bytes start ps before → Asked before r after
+    → Filled bytes start ps' after
+filled_more bytes start ps ps' before p after more e f a =
+    let asked = subst (λ r. Asked before r after) e a in
+    subst (λ ps. Filled bytes start ps after) (sym more) (record {
+      sofar = subst (λ es. Sofar bytes es after) (sym (map_push as_read ps p)) (sofar_more bytes (map as_read ps) before p after f.sofar (gave before p after e a));
+      lie = λ schedule reads.
+          let so = f.lie schedule reads in
+          let part : PartOf schedule p = record { lies = asked.lies schedule so.0; says = asked.says } in
+          (asked.reads schedule so.0, All-append (PartOf schedule) ps (p ∷ []) so.1 (part, tt));
+    })
+
 -- then the contents are those of the bytes
-pub holds_all : (bytes : List ℕ) (c : Contents) (reader after : Reader) → open_refusal bytes ≡ None → Bytes bytes → Sofar bytes (map seen (vec_items c.parts)) reader → Stopped reader c.refusal after → c.stop ≡ after.total - length after.rest.now → Holds bytes c
-holds_all bytes c reader after opened all s stopped at =
-    let es = map seen (vec_items c.parts) in
+pub holds_all : (schedule : Bor (List ℕ)) (c : Contents) (reader after : Reader) → open_refusal schedule.now ≡ None → Bytes schedule.now → (start : Reader) → Reads schedule start → Filled schedule.now start (vec_items c.parts) reader → Stopped reader c.refusal after → c.stop ≡ after.total - length after.rest.now → Holds schedule c
+holds_all schedule c reader after opened all start reads filled stopped at =
+    let bytes = schedule.now in
+    let s = filled.sofar in
+    let es = map as_read (vec_items c.parts) in
     let is = sofar_all bytes es reader s stopped.stops in
     let asked : next_of reader.first reader.total reader.rest.now ≡ next_of (still true (read_all bytes).entries) (length bytes) (read_all bytes).rest = (λ i. next_of (s.first i) (s.total i) reader.rest.now) ∙ (λ i. next_of (still true (sym is i).entries) (length bytes) (sym is i).rest) in
     record {
       parts = ap (λ l. l.entries) (sym is) ∙ sym (ap (entries_of bytes) opened);
+      lie = (filled.lie schedule reads).1;
       refused = stopped.number ∙ ap stop_number asked ∙ sym (ap (refusal_of bytes) opened);
       stop = at ∙ stopped.offset ∙ (λ i. s.total i - length (sym is i).rest) ∙ sym (ap (stop_of bytes) opened);
       accounted = nothing_lost bytes all;

@@ -4,13 +4,12 @@ use Rattle.std.proofs.lemmas.List.{append_assoc, length-append}
 use Rattle.std.proofs.ByRecursion.{All-append}
 use Rattle.std.proofs.lemmas.Bool.{cond-false, le-ltb, eqb-true}
 use Rattle.std.specs.List.{flat_map}
-use Rattle.basis.specs.declared.kind.Kind.{Kind}
 use Rattle.basis.specs.declared.kind.Kind.TheVariants.{Lookup, Insert, Remove}
 use Rattle.records.specs.declared.record.SchemeName.{SchemeName}
 use Rattle.records.specs.declared.record.SchemeName.TheVariants.{Full, Owner, Version}
 use Rattle.records.specs.declared.record.Record.{Record}
 use Rattle.records.specs.declared.record.Record.TheVariants.{Setup, Join, Leave, Begin, Step, Abandon}
-use Rattle.records.specs.Records.{scheme, begin, two, four, fields, written, Fits}
+use Rattle.records.specs.Records.{scheme, two, four, fields, written, Fits}
 use Rattle.schedule.specs.Reading.{ReadRecord, read_record, Reading, handed, ended, malformed, next_of, no_first_byte, open_refusal}
 use Rattle.schedule.specs.Schedules.{Listing, listing, read_more, read_on, schedule, Writable, entries_at, still, Bytes, BeginsNone, RoundTrip, NothingLost, Stops, ReadingEnds}
 use Rattle.schedule.proofs.Writes.{decoded_says, none_left}
@@ -47,11 +46,6 @@ scheme_byte Full = lit< tt
 scheme_byte Owner = lit< tt
 scheme_byte Version = lit< tt
 
-begin_byte : (k : Kind) → (begin k []).number < 256
-begin_byte Lookup = lit< tt
-begin_byte Insert = lit< tt
-begin_byte Remove = lit< tt
-
 bytes_append : (xs ys : List ℕ) → Bytes xs → Bytes ys → Bytes (xs ++ ys)
 bytes_append = All-append (λ b. b < 256)
 
@@ -59,7 +53,9 @@ fields_bytes : (r : Record) → Fits r → Bytes (fields r)
 fields_bytes (Setup s cells window) f = (lit< tt, (scheme_byte s, bytes_append (two cells) (window ∷ []) (two_bytes cells f.0) (f.1, tt)))
 fields_bytes (Join seat) f = (lit< tt, (f, tt))
 fields_bytes (Leave seat) f = (lit< tt, (f, tt))
-fields_bytes (Begin k seat sector) f = (begin_byte k, (f.0, four_bytes sector f.1))
+fields_bytes (Begin Lookup seat sector) f = (lit< tt, (f.0, four_bytes sector f.1))
+fields_bytes (Begin Insert seat sector) f = (lit< tt, (f.0, four_bytes sector f.1))
+fields_bytes (Begin Remove seat sector) f = (lit< tt, (f.0, four_bytes sector f.1))
 fields_bytes (Step seat) f = (lit< tt, (f, tt))
 fields_bytes (Abandon seat) f = (lit< tt, (f, tt))
 
@@ -67,7 +63,9 @@ few_fields : (r : Record) → length (fields r) < 2 ^ 16
 few_fields (Setup s cells window) = lit< tt
 few_fields (Join seat) = lit< tt
 few_fields (Leave seat) = lit< tt
-few_fields (Begin k seat sector) = lit< tt
+few_fields (Begin Lookup seat sector) = lit< tt
+few_fields (Begin Insert seat sector) = lit< tt
+few_fields (Begin Remove seat sector) = lit< tt
 few_fields (Step seat) = lit< tt
 few_fields (Abandon seat) = lit< tt
 

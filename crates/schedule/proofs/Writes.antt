@@ -42,7 +42,7 @@ decoded_fields (Abandon seat) = refl
 
 -- what holds of each value that a list of tests can give holds of the one that it gave
 module _ {X : Type 0} (P : X → Type 0) (c : ℕ) (r : X) where
-  tested : (n : ℕ) (x : X) (o : Option X) → (c ≡ n → P x) → (o ≡ Some r → P r) → cond (eqb c n) (Some x) o ≡ Some r → P r
+  pub tested : (n : ℕ) (x : X) (o : Option X) → (c ≡ n → P x) → (o ≡ Some r → P r) → cond (eqb c n) (Some x) o ≡ Some r → P r
   tested n x o here others =
       elim (eqb c n) as (λ b. (b ≡ true → P x) → cond b (Some x) o ≡ Some r → P r) [
         | true ↦ λ here e. let same : x ≡ r = cc in subst P same (here refl)

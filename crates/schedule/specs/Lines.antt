@@ -2,10 +2,15 @@
 use Rattle.std.specs.Prelude.{◌≡◌, ℕ, suc, List, [], ◌∷◌, ◌++◌, Result, OnOk, OnErr, codes, decimal}
 use Rattle.basis.specs.declared.answer.Answer.{Answer}
 use Rattle.basis.specs.Answers.{spaced, spoken}
+use Rattle.schedule.specs.declared.line.Line.{Line}
 
 -- the record's number in decimal, a space, the answer's word with what it carries, and a line feed
 abbrev pub line_of : ℕ → Answer → List ℕ
 line_of n a = decimal n ++ 32 ∷ (spoken a ++ 10 ∷ [])
+
+-- the text of a line
+abbrev pub line_text : Line → List ℕ
+line_text l = line_of l.number l.answer
 
 -- the lines of answers one after another, numbered from n on
 unfoldable pub lines_from : ℕ → List Answer → List ℕ

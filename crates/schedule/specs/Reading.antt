@@ -1,12 +1,13 @@
 -- What the reader does: how it opens, and what one asking gives. Assumes nothing.
-use Rattle.std.specs.Prelude.{◌≡◌, ℕ, ◌-◌, Bool, true, false, cond, not, List, [], ◌∷◌, length, take, drop, Some, None, codes, Option, Ok, Err, Result, ◌==◌, nat_lt}
+use Rattle.std.specs.Prelude.{◌≡◌, ℕ, ◌+◌, ◌-◌, ◌≤◌, Bool, true, false, cond, not, List, [], ◌∷◌, length, take, drop, Some, None, IfOk, IfSome, codes, Option, Ok, Err, Result, ◌==◌, nat_lt}
+use Rattle.std.specs.Borrow.{Bor}
 use Rattle.basis.specs.Cases.{Case, case_of}
 use Rattle.basis.specs.Refusals.{refusal}
 use Rattle.records.specs.declared.record.Record.{Record}
 use Rattle.basis.specs.declared.refusal.Refusal.{Refusal}
 use Rattle.schedule.specs.declared.reader.Part.{Part}
 use Rattle.schedule.specs.declared.reader.Reader.{Reader}
-use Rattle.records.specs.Records.{is_setup, from_two, decoded}
+use Rattle.records.specs.Records.{is_setup, from_two, fields, decoded}
 
 -- a record as it is handed out: where its call byte stands, its bytes from there on, and what they say
 pub record ReadRecord : Type 0 where
@@ -104,10 +105,38 @@ first_after (handed e left) first = false
 first_after ended first = first
 first_after malformed first = first
 
+-- a slice of bytes is that very part of another: it begins so many bytes after the other's first, ends no later, and has the bytes there
+pub record LiesAt (whole : Bor (List ℕ)) (offset : ℕ) (part : Bor (List ℕ)) : Type 0 where
+  pub address : part.ref_ptr ≡ (whole.ref_ptr.0, whole.ref_ptr.1 + offset)
+  pub room : offset + length part.now ≤ length whole.now
+  pub bytes : part.now ≡ take (length part.now) (drop offset whole.now)
+
+-- a reader reads that schedule: it has the number of its bytes, and what is left to it is the last part of those very bytes
+pub record Reads (schedule : Bor (List ℕ)) (reader : Reader) : Type 0 where
+  pub total : reader.total ≡ length schedule.now
+  pub rest : LiesAt schedule (reader.total - length reader.rest.now) reader.rest
+
+-- what holds of the part that is handed out, if one is
+abbrev pub OnPart : Result (Option Part) Refusal → (Part → Type 0) → Type 0
+OnPart r P = IfOk r (λ o. IfSome o P)
+
+-- a reader that was opened: it reads that schedule, whose first byte is 1, and its first record is still to come
+pub record Opened (schedule : Bor (List ℕ)) (reader : Reader) : Type 0 where
+  pub accepted : open_refusal schedule.now ≡ None
+  pub begins : schedule.now ≡ 1 ∷ reader.rest.now
+  pub total : reader.total ≡ length schedule.now
+  pub first : reader.first ≡ true
+  pub reads : Reads schedule reader
+
 -- a reader asked once: the outcome, and the reader afterwards
 pub record Asked (before : Reader) (r : Result (Option Part) Refusal) (after : Reader) : Type 0 where
   pub value : outcome r ≡ due (reading before)
   pub content : content_of r ≡ content_due (reading before)
+  -- the bytes are by definition those of what the record says: its number, and then its values
+  pub says : OnPart r (λ p. p.bytes.now ≡ fields p.content)
+  -- they are that very part of the schedule that is read, at the offset that is told
+  pub lies : (schedule : Bor (List ℕ)) → Reads schedule before → OnPart r (λ p. LiesAt schedule p.offset p.bytes)
+  pub reads : (schedule : Bor (List ℕ)) → Reads schedule before → Reads schedule after
   pub rest : after.rest.now ≡ left_after (reading before) before.rest.now
   pub total : after.total ≡ before.total
   pub first : after.first ≡ first_after (reading before) before.first

@@ -89,3 +89,16 @@ StopsAfter bytes l = Stops (next_of (still true l.entries) (length bytes) l.rest
 -- reading ends: one asking for each so many bytes is enough
 abbrev pub ReadingEnds : ℕ → Type 0
 ReadingEnds each = (bytes : List ℕ) (n : ℕ) → open_refusal bytes ≡ None → length bytes ≤ each * n → StopsAfter bytes (read_within n bytes)
+
+-- the lines that answer bytes that are opened: one for each record, and one for a rest that begins no record
+abbrev pub stop_lines : Reading → ℕ
+stop_lines (handed e left) = 0
+stop_lines ended = 0
+stop_lines malformed = 1
+
+abbrev pub line_count : List ℕ → ℕ
+line_count bytes = length (read_all bytes).entries + stop_lines (next_of (still true (read_all bytes).entries) (length bytes) (read_all bytes).rest)
+
+-- no line has a larger number than that
+abbrev pub LineNumbers : ℕ → Type 0
+LineNumbers most = (bytes : List ℕ) → open_refusal bytes ≡ None → line_count bytes ≤ most

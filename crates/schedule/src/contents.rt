@@ -16,7 +16,7 @@ pub struct Contents<'a> {
 
 // Everything that the reader hands out of these bytes.
 pub fn read_whole(heap: Global, bytes: &[u8]) -> Result<Contents<'_>, AllocError>
-    ensures { IfOk result (λ c. Holds bytes.now c) }
+    ensures { IfOk result (Holds bytes.entry) }
 {
     let mut parts = Vec::new(heap);
     let mut reader = match Reader::open(bytes) {

@@ -4,5 +4,6 @@
 pub mod contents;
 pub mod input;
 pub mod laws;
+pub mod line;
 pub mod lines;
 pub mod reader;

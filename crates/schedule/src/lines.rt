@@ -1,8 +1,9 @@
 // The lines that answer a schedule.
-ghost use Rattle.std.specs.Prelude.{◌≡◌, ◌+◌, ◌/◌, ◌%◌, ◌<◌, ◌≤◌, [], ◌∷◌, ◌++◌, IfOk, string_bytes, decimal};
+ghost use Rattle.std.specs.Prelude.{◌≡◌, ◌+◌, ◌/◌, ◌%◌, ◌<◌, ◌≤◌, ◌^◌, [], ◌∷◌, ◌++◌, length, IfOk, string_bytes, decimal};
 ghost use Rattle.basis.specs.Answers.{spoken};
-ghost use Rattle.schedule.specs.Lines.{line_of, lines_from, Adds};
+ghost use Rattle.schedule.specs.Lines.{line_text, lines_from, Adds};
 
+use crate::line::Line;
 use basis::answer::Answer;
 use basis::refusal::Refusal;
 use itoa::Buffer;
@@ -10,7 +11,7 @@ use std::alloc::{AllocError, Global};
 use std::str::from_utf8_unchecked;
 
 // The byte of a digit.
-fn digit(value: usize) -> u8
+fn digit(value: u16) -> u8
     requires { value < 10 }
     ensures { result ≡ 48 + value }
 {
@@ -19,7 +20,7 @@ fn digit(value: usize) -> u8
 
 // The byte of the last digit of a number, by a tenth of it, rounded down: what ten times the tenth leaves. By `%` the machine code would divide once
 // more.
-fn last_digit(number: usize, tenth: usize) -> u8
+fn last_digit(number: u16, tenth: u16) -> u8
     requires { tenth ≡ number / 10 }
     ensures { result ≡ 48 + number % 10 }
 {
@@ -28,7 +29,7 @@ fn last_digit(number: usize, tenth: usize) -> u8
 
 // The four digits of a number that has so many. This function and the next stay two: one over the number of digits, with a loop over their
 // places, and `itoa` for these numbers too made the whole replay 6 and 11 per cent slower.
-fn four_digits(number: usize) -> [u8; 4]
+fn four_digits(number: u16) -> [u8; 4]
     requires { (1000 ≤ number) × (number < 10000) }
     ensures { result ≡ decimal number }
 {
@@ -44,8 +45,8 @@ fn four_digits(number: usize) -> [u8; 4]
 }
 
 // The five digits of a number that has so many.
-fn five_digits(number: usize) -> [u8; 5]
-    requires { (10000 ≤ number) × (number < 100000) }
+fn five_digits(number: u16) -> [u8; 5]
+    requires { 10000 ≤ number }
     ensures { result ≡ decimal number }
 {
     let tens = number / 10;
@@ -63,15 +64,15 @@ fn five_digits(number: usize) -> [u8; 5]
 
 // Adds a number. Most lines of a long schedule have four or five digits, which are written at once.
 #[inline(always)]
-fn push_number(text: &mut String, number: usize) -> Result<(), AllocError>
+fn push_number(text: &mut String, number: u16) -> Result<(), AllocError>
     ensures { Adds (string_bytes text.old) (string_bytes text.new) result (decimal number) }
 {
-    if 1000 <= number && number < 10000 {
-        let digits = four_digits(number);
+    if number >= 10000 {
+        let digits = five_digits(number);
         return text.push_str(unsafe { from_utf8_unchecked(&digits) });
     }
-    if 10000 <= number && number < 100000 {
-        let digits = five_digits(number);
+    if number >= 1000 {
+        let digits = four_digits(number);
         return text.push_str(unsafe { from_utf8_unchecked(&digits) });
     }
     let mut digits = Buffer::new();
@@ -83,7 +84,7 @@ fn push_refusal(text: &mut String, refusal: Refusal) -> Result<(), AllocError>
     ensures { Adds (string_bytes text.old) (string_bytes text.new) result (32 ∷ (spoken (Answer.Refused refusal) ++ 10 ∷ [])) }
 {
     text.push_str(" refused ")?;
-    push_number(text, usize::from(u8::from(refusal)))?;
+    push_number(text, u16::from(u8::from(refusal)))?;
     text.push_str("\n")
 }
 
@@ -103,31 +104,40 @@ fn push_answer(text: &mut String, answer: Answer) -> Result<(), AllocError>
     }
 }
 
-// Adds the line of a record: its number, a space, the answer, and a line feed.
+// The line of a record by its number: nothing is allocated, and nothing fails.
 #[inline(always)]
-pub fn push_line(text: &mut String, number: usize, answer: Answer) -> Result<(), AllocError>
-    ensures { Adds (string_bytes text.old) (string_bytes text.new) result (line_of number answer) }
+pub fn line(number: u16, answer: Answer) -> Line
+    ensures { result ≡ record { number = number; answer = answer } }
 {
-    push_number(text, number)?;
-    push_answer(text, answer)
+    Line { number, answer }
 }
 
-// Adds the lines of answers one after another, the first with that number.
+// Adds a line. Where memory runs out, what stood before stays at the front of the text.
+#[inline(always)]
+pub fn push_line(text: &mut String, line: Line) -> Result<(), AllocError>
+    ensures { Adds (string_bytes text.old) (string_bytes text.new) result (line_text line) }
+{
+    push_number(text, line.number)?;
+    push_answer(text, line.answer)
+}
+
+// Adds the lines of answers one after another, the first with that number. The number after the last has to be a line's number too.
 #[tactic(auto, using(std::proofs::lemmas::Grind::common_steps, crate::proofs::Numbered::lines_more), unfolding(crate::specs::Lines::lines_from))]
 pub fn push_lines(text: &mut String, first: u16, answers: &[Answer]) -> Result<(), AllocError>
+    requires { first + length answers.now < 2 ^ 16 }
     ensures { Adds (string_bytes text.old) (string_bytes text.new) result (lines_from first answers.now) }
 {
-    for (index, answer) in answers.iter().enumerate() {
-        push_line(text, usize::from(first) + index, *answer)?;
+    for number in first..first + answers.len() as u16 {
+        push_line(text, line(number, answers[usize::from(number - first)]))?;
     }
     Ok(())
 }
 
-// The line of a record: its number, a space, the answer, and a line feed.
-pub fn line(heap: Global, number: usize, answer: Answer) -> Result<String, AllocError>
-    ensures { IfOk result (λ text. string_bytes text ≡ line_of number answer) }
+// A text of one line.
+pub fn text_of_line(heap: Global, line: Line) -> Result<String, AllocError>
+    ensures { IfOk result (λ text. string_bytes text ≡ line_text line) }
 {
     let mut text = String::new(heap);
-    push_line(&mut text, number, answer)?;
+    push_line(&mut text, line)?;
     Ok(text)
 }

@@ -1,9 +1,9 @@
 // The reader of a schedule, over bytes that it borrows.
-ghost use Rattle.std.specs.Prelude.{◌≡◌, ◌-◌, true, false, ◌∷◌, length, Some, None, MatchOption, MatchResult, nat_lt};
+ghost use Rattle.std.specs.Prelude.{◌≡◌, ◌+◌, ◌-◌, false, length, Some, None, IfOk, IfSome, MatchOption, MatchResult, nat_lt};
 ghost use Rattle.basis.specs.declared.refusal.Refusal.TheVariants.{BadRecord};
 ghost use Rattle.basis.specs.Refusals.{refusal};
-ghost use Rattle.records.specs.Records.{from_two};
-ghost use Rattle.schedule.specs.Reading.{open_refusal, cut_of, content_at, Asked};
+ghost use Rattle.records.specs.Records.{from_two, fields};
+ghost use Rattle.schedule.specs.Reading.{open_refusal, cut_of, content_at, LiesAt, Opened, Asked};
 
 use basis::refusal::Refusal;
 use records::record::Record;
@@ -38,19 +38,26 @@ fn length_of(high: u8, low: u8) -> usize
     usize::from(u16::from_be_bytes([high, low]))
 }
 
-// The bytes of the record whose length stands in front, and what is left after them; None where the record is cut short.
+// The bytes of the record whose length stands in front, and what is left after them; None where the record is cut short. By ranges and not by
+// `split_at_checked`, which promises of its two parts what bytes they have, and not where they lie.
 fn cut(rest: &[u8]) -> Option<(&[u8], &[u8])>
-    ensures { MatchOption result (cut_of rest.now ≡ None) (λ p. cut_of rest.now ≡ Some (p.0.now, p.1.now)) }
+    ensures cases { MatchOption result (cut_of rest.now ≡ None) (λ p. cut_of rest.now ≡ Some (p.0.now, p.1.now)) }
+    ensures lies { IfSome result (λ p. LiesAt rest.entry 2 p.0 × LiesAt rest.entry (2 + length p.0.now) p.1) }
 {
     let [high, low, bytes @ ..] = rest else {
         return None;
     };
-    bytes.split_at_checked(length_of(*high, *low))
+    let length = length_of(*high, *low);
+    if bytes.len() < length {
+        return None;
+    }
+    Some((&bytes[..length], &bytes[length..]))
 }
 
 // What a record says, if it may stand there: the first is a setup, and no other is.
 fn content_at(first: bool, bytes: &[u8]) -> Result<Record, Refusal>
-    ensures { MatchResult result (λ r. content_at first bytes.now ≡ Some r) (λ e. (content_at first bytes.now ≡ None) × (e ≡ BadRecord)) }
+    ensures cases { MatchResult result (λ r. content_at first bytes.now ≡ Some r) (λ e. (content_at first bytes.now ≡ None) × (e ≡ BadRecord)) }
+    ensures says { IfOk result (λ r. bytes.now ≡ fields r) }
 {
     let content = Record::try_from(bytes)?;
     if content.is_setup() == first {
@@ -63,7 +70,7 @@ fn content_at(first: bool, bytes: &[u8]) -> Result<Record, Refusal>
 impl<'a> Reader<'a> {
     // A reader at the first record; refused are more than 60,000 bytes, and then a first byte that is not there or not 1.
     pub fn open(bytes: &'a [u8]) -> Result<Reader<'a>, Refusal>
-        ensures { MatchResult result (λ reader. (open_refusal bytes.now ≡ None) × (bytes.now ≡ 1 ∷ reader.rest.now) × (reader.total ≡ length bytes.now) × (reader.first ≡ true)) (λ e. open_refusal bytes.now ≡ Some (refusal e).number) }
+        ensures { MatchResult result (Opened bytes.entry) (λ e. open_refusal bytes.now ≡ Some (refusal e).number) }
     {
         let total = bytes.len();
         if too_long(total) {
@@ -88,7 +95,7 @@ impl<'a> Reader<'a> {
 
     // The reader once a record was handed out, with these bytes left.
     fn moved(self, left: &'a [u8]) -> Reader<'a>
-        ensures rest { result.rest.now ≡ left.now }
+        ensures rest { result.rest ≡ left.entry }
         ensures total { result.total ≡ self.entry.total }
         ensures first { result.first ≡ false }
     {

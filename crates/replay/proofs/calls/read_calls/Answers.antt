@@ -10,7 +10,7 @@ use Rattle.replay.proofs.calls.read_calls.Goals as goal
 pub loop-part-init : goal.loop-part-init
 loop-part-init c =
     let opened = c.in-Ok.ensures in
-    taken_none c.args.bytes.now c.in-Ok.reader (sofar_none c.args.bytes.now c.in-Ok.reader opened.1 opened.2 opened.3) (ap (map ask_of) c.in_ok-asks.ensures.items)
+    taken_none c.args.bytes.now c.in-Ok.reader (sofar_none c.args.bytes.now c.in-Ok.reader opened.begins opened.total opened.first) (ap (map ask_of) c.in_ok-asks.ensures.items)
 
 pub loop-part-smaller : goal.loop-part-smaller
 loop-part-smaller c =
@@ -33,4 +33,4 @@ returns c =
       | in-Ok-None w ↦ stopped_end reader after (w.in-Ok-None.is ∙ ap Ok w.in-Ok-None.field-0-is) w.stop-is c.next.ensures
       | in-Err-next w ↦ stopped_refusal reader w.in-Err-next.refusal after w.in-Err-next.is w.stop-is c.next.ensures
     ] in
-    (c.in-Ok.ensures.0, says c.args.bytes.now _ reader after c.loop-part.invariant stopped)
+    (c.in-Ok.ensures.accepted, says c.args.bytes.now _ reader after c.loop-part.invariant stopped)
