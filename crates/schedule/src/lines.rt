@@ -1,5 +1,5 @@
 // The lines that answer a schedule.
-ghost use Rattle.std.specs.Prelude.{◌≡◌, ◌+◌, ◌/◌, ◌%◌, ◌<◌, ◌≤◌, ◌^◌, [], ◌∷◌, ◌++◌, length, IfOk, string_bytes, decimal};
+ghost use Rattle.std.specs.Prelude.{◌≡◌, ◌+◌, ◌-◌, ◌/◌, ◌%◌, ◌<◌, ◌≤◌, ◌^◌, [], ◌∷◌, ◌++◌, length, take, IfOk, string_bytes, decimal};
 ghost use Rattle.basis.specs.Answers.{spoken};
 ghost use Rattle.schedule.specs.Lines.{line_text, lines_from, Adds};
 
@@ -123,7 +123,7 @@ pub fn push_line(text: &mut String, line: Line) -> Result<(), AllocError>
 
 // Adds the lines of answers one after another, the first with that number. The number after the last has to be a line's number too.
 #[tactic(auto, using(std::proofs::lemmas::Grind::common_steps, crate::proofs::Numbered::lines_more), unfolding(crate::specs::Lines::lines_from))]
-pub fn push_lines(text: &mut String, first: u16, answers: &[Answer]) -> Result<(), AllocError>
+fn push_numbered(text: &mut String, first: u16, answers: &[Answer]) -> Result<(), AllocError>
     requires { first + length answers.now < 2 ^ 16 }
     ensures { Adds (string_bytes text.old) (string_bytes text.new) result (lines_from first answers.now) }
 {
@@ -131,6 +131,16 @@ pub fn push_lines(text: &mut String, first: u16, answers: &[Answer]) -> Result<(
         push_line(text, line(number, answers[usize::from(number - first)]))?;
     }
     Ok(())
+}
+
+// Adds the lines of answers one after another, the first with that number, as far as their numbers are below 65,535; no schedule has one above
+// 14,999. Where memory runs out, what stood before stays at the front of the text.
+#[tactic(auto, using(std::proofs::lemmas::List::take_min))]
+pub fn push_lines(text: &mut String, first: u16, answers: &[Answer]) -> Result<(), AllocError>
+    ensures { Adds (string_bytes text.old) (string_bytes text.new) result (lines_from first (take (65535 - first) answers.now)) }
+{
+    let numbered = answers.len().min(usize::from(u16::MAX - first));
+    push_numbered(text, first, &answers[..numbered])
 }
 
 // A text of one line.
