@@ -34,7 +34,7 @@ fn text_of_none(heap: Global, stop: Option<Refusal>) -> Result<String, AllocErro
 }
 
 // An accepted setup, the answers of the calls, and the refusal at which reading stopped.
-#[tactic(auto, using(std::proofs::lemmas::Grind::common_steps, std::proofs::lemmas::List::take_all, schedule::proofs::Numbered::lines_join), unfolding(schedule::specs::Lines::lines_from))]
+#[tactic(auto, using(std::proofs::lemmas::Grind::common_steps, schedule::proofs::Numbered::lines_join), unfolding(schedule::specs::Lines::lines_from))]
 fn text_of_answers(
     heap: Global,
     answers: &[Answer],
