@@ -1,6 +1,8 @@
-// Tests of schedules: the reader, the lines and the replay at their edges.
+// Tests of schedules: the reader, the lines and the replay at their edges, and that memory is given back.
 #![tactic(auto)]
 
+#[cfg(test)]
+mod memory;
 #[cfg(test)]
 mod replays;
 #[cfg(test)]

@@ -1,11 +1,13 @@
 // What short, long and damaged schedules are answered.
 use basis::answer::Answer;
+use basis::kind::Kind;
 use basis::refusal::Refusal;
+use records::record::{Record, SchemeName};
 use replay::opening::answer_opening;
 use replay::replay;
 use schedule::contents::read_whole;
 use schedule::input::read_schedule;
-use schedule::lines::line;
+use schedule::lines::{line, text_of_line};
 use schedule::reader::Reader;
 use std::alloc::Global;
 use std::process::Abort;
@@ -227,21 +229,124 @@ fn as_many_records_as_fit(rt: HostRuntime) -> Result<(), Fail> {
     check_text(&rt, heap, bytes.as_slice(), "0 refused 9\n")
 }
 
+// The text that a line shows, and the text of that line alone.
+fn check_line(
+    rt: &impl Abort,
+    heap: Global,
+    number: u16,
+    answer: Answer,
+    text: &str,
+) -> Result<(), Fail> {
+    let shown = line(number, answer);
+    assert_eq!(rt; format!(in heap; "{shown}")?.as_str(), text);
+    assert_eq!(rt; text_of_line(heap, shown)?.as_str(), text);
+    Ok(())
+}
+
+// Where the number of digits changes, and every answer.
 #[test]
 fn lines_have_their_number_and_answer(rt: HostRuntime) -> Result<(), Fail> {
     let heap = rt.alloc();
-    assert_eq!(rt;
-        line(heap, 0, Answer::Refused(Refusal::ScheduleTooLong))?.as_str(),
-        "0 refused 9\n"
-    );
-    assert_eq!(rt; line(heap, 9, Answer::Ok)?.as_str(), "9 ok\n");
-    assert_eq!(rt; line(heap, 10, Answer::Wait)?.as_str(), "10 wait\n");
-    assert_eq!(rt; line(heap, 99, Answer::Yes)?.as_str(), "99 yes\n");
-    assert_eq!(rt; line(heap, 100, Answer::No)?.as_str(), "100 no\n");
-    assert_eq!(rt; line(heap, 14999, Answer::Full)?.as_str(), "14999 full\n");
-    assert_eq!(rt;
-        line(heap, 4294967295, Answer::Refused(Refusal::OutOfRange))?.as_str(),
-        "4294967295 refused 1\n"
-    );
+    let cases = [
+        (
+            0,
+            Answer::Refused(Refusal::ScheduleTooLong),
+            "0 refused 9\n",
+        ),
+        (
+            1,
+            Answer::Refused(Refusal::OutOfRange),
+            "1 refused 1\n",
+        ),
+        (9, Answer::Ok, "9 ok\n"),
+        (10, Answer::Wait, "10 wait\n"),
+        (99, Answer::Yes, "99 yes\n"),
+        (100, Answer::No, "100 no\n"),
+        (999, Answer::Full, "999 full\n"),
+        (
+            1000,
+            Answer::Refused(Refusal::BadRecord),
+            "1000 refused 11\n",
+        ),
+        (9999, Answer::Wait, "9999 wait\n"),
+        (10000, Answer::Yes, "10000 yes\n"),
+        (14999, Answer::Full, "14999 full\n"),
+        (65535, Answer::No, "65535 no\n"),
+    ];
+    for (number, answer, text) in cases {
+        check_line(&rt, heap, number, answer, text)?;
+    }
+    Ok(())
+}
+
+// Every record and its number, the largest values among them, as it is shown to a person.
+#[test]
+fn records_are_shown(rt: HostRuntime) -> Result<(), Fail> {
+    let heap = rt.alloc();
+    let cases = [
+        (
+            Record::Setup {
+                scheme: SchemeName::Full,
+                cells: 65535,
+                window: 255,
+            },
+            0,
+            "setup full, cells 65535, window 255",
+        ),
+        (Record::Join { seat: 0 }, 1, "join, seat 0"),
+        (Record::Leave { seat: 9 }, 2, "leave, seat 9"),
+        (
+            Record::Begin {
+                kind: Kind::Lookup,
+                seat: 10,
+                sector: 0,
+            },
+            3,
+            "begin lookup, seat 10, sector 0",
+        ),
+        (
+            Record::Begin {
+                kind: Kind::Insert,
+                seat: 15,
+                sector: 4294967295,
+            },
+            4,
+            "begin insert, seat 15, sector 4294967295",
+        ),
+        (
+            Record::Begin {
+                kind: Kind::Remove,
+                seat: 99,
+                sector: 1000000000,
+            },
+            5,
+            "begin remove, seat 99, sector 1000000000",
+        ),
+        (Record::Step { seat: 100 }, 6, "step, seat 100"),
+        (Record::Abandon { seat: 255 }, 7, "abandon, seat 255"),
+    ];
+    for (record, number, text) in cases {
+        assert_eq!(rt; record.number(), number);
+        assert_eq!(rt; format!(in heap; "{record}")?.as_str(), text);
+    }
+    Ok(())
+}
+
+// Every scheme's name and its number.
+#[test]
+fn schemes_are_shown(rt: HostRuntime) -> Result<(), Fail> {
+    let heap = rt.alloc();
+    let cases = [
+        (SchemeName::Full, 1, "full"),
+        (SchemeName::Owner, 2, "owner"),
+        (SchemeName::Version, 3, "version"),
+    ];
+    for (name, number, text) in cases {
+        assert_eq!(rt; name.number(), number);
+        assert_eq!(rt; SchemeName::try_from(number), Ok(name));
+        assert_eq!(rt; format!(in heap; "{name}")?.as_str(), text);
+    }
+    assert_eq!(rt; SchemeName::try_from(0), Err(Refusal::BadRecord));
+    assert_eq!(rt; SchemeName::try_from(4), Err(Refusal::BadRecord));
     Ok(())
 }
