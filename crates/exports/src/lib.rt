@@ -26,8 +26,8 @@ fn write_text(text: &[u8], room: &mut [u8]) -> usize
     text.len()
 }
 
-// Writes the text that answers a schedule into the room, and returns its length; where memory runs out or the room is too short, nothing
-// is written, and the number says which of the two it was.
+/// Writes the text that answers a schedule into the room, and returns its length; where memory runs out or the room is too short, nothing
+/// is written, and the number says which of the two it was.
 #[unsafe(no_mangle)]
 pub extern "C" fn marked_list_replay(heap: Global, bytes: &[u8], room: &mut [u8]) -> usize
     ensures { Exported bytes.now room.old room.new result }
@@ -38,7 +38,7 @@ pub extern "C" fn marked_list_replay(heap: Global, bytes: &[u8], room: &mut [u8]
     }
 }
 
-// How many bytes a cell with a sector takes.
+/// How many bytes a cell with a sector takes.
 #[unsafe(no_mangle)]
 pub extern "C" fn marked_list_cell_bytes() -> usize
     ensures { result ≡ 8 }

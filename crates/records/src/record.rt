@@ -8,7 +8,7 @@ use basis::kind::Kind;
 use basis::refusal::Refusal;
 use std::fmt;
 
-// The schemes that a setup can name.
+/// The schemes that a setup can name.
 #[derive(Clone, Copy, PartialEq, Eq, Debug)]
 pub enum SchemeName {
     Full,
@@ -16,7 +16,7 @@ pub enum SchemeName {
     Version,
 }
 
-// One record, decoded. Seats are plain numbers here: their range is the business of the calls.
+/// One record, decoded. Seats are plain numbers here: their range is the business of the calls.
 #[derive(Clone, Copy, PartialEq, Eq, Debug)]
 pub enum Record {
     Setup {
@@ -44,7 +44,7 @@ pub enum Record {
 }
 
 impl SchemeName {
-    // The number by which a setup names this scheme, 1 to 3.
+    /// The number by which a setup names this scheme, 1 to 3.
     pub fn number(self) -> u8
         ensures { result ≡ (scheme self).number }
     {
@@ -55,7 +55,7 @@ impl SchemeName {
         }
     }
 
-    // The scheme's name, for a person.
+    /// The scheme's name, for a person.
     pub fn word(self) -> &'static str
         ensures { result.now ≡ (scheme self).word }
     {
@@ -94,7 +94,7 @@ impl TryFrom<u8> for SchemeName {
 }
 
 impl Record {
-    // The number of this case, 0 to 7: the call byte.
+    /// The number of this case, 0 to 7: the call byte.
     pub fn number(self) -> u8
         ensures { result ≡ (said self).number }
     {
@@ -112,7 +112,7 @@ impl Record {
         }
     }
 
-    // Whether this is a setup, which has to be the first record and no other.
+    /// Whether this is a setup, which has to be the first record and no other.
     pub fn is_setup(self) -> bool
         ensures { result ≡ is_setup self }
     {

@@ -37,7 +37,7 @@ fn ask_by(content: Record) -> Option<Ask<Sector>>
     })
 }
 
-// What a schedule says: its setup, what the calls after it ask, and the refusal at which reading stopped, None where it came to the end.
+/// What a schedule says: its setup, what the calls after it ask, and the refusal at which reading stopped, None where it came to the end.
 #[derive(PartialEq, Eq, Debug, Drop)]
 pub struct Calls {
     pub setup: Option<Record>,
@@ -62,7 +62,7 @@ fn push_ask(asks: &mut Vec<Ask<Sector>>, content: Record) -> Result<(), AllocErr
     Ok(())
 }
 
-// Everything that the reader hands out of these bytes, or the refusal to open them.
+/// Everything that the reader hands out of these bytes, or the refusal to open them.
 #[inline(never)]
 pub fn read_calls(heap: Global, bytes: &[u8]) -> Result<Result<Calls, Refusal>, AllocError>
     ensures { IfOk result (λ r. MatchResult r (λ c. (open_refusal bytes.now ≡ None) × Says bytes.now c) (λ e. open_refusal bytes.now ≡ Some (refusal e).number)) }

@@ -15,8 +15,8 @@ use basis::answer::Answer;
 use schedule::lines::{line, text_of_line};
 use std::alloc::{AllocError, Global};
 
-// The text that answers a schedule: a line for each record, until reading or the setup is refused. A schedule that is not opened is
-// answered on line 0.
+/// The text that answers a schedule: a line for each record, until reading or the setup is refused. A schedule that is not opened is
+/// answered on line 0.
 pub fn replay(heap: Global, bytes: &[u8]) -> Result<String, AllocError>
     ensures { IfOk result (λ text. Replayed bytes.now (string_bytes text)) }
 {

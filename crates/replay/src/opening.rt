@@ -30,8 +30,8 @@ fn setup_answer(content: Record) -> Answer
     }
 }
 
-// The line that answers the first record of a schedule, or the refusal to open it; no line where there is no record. The text of a replay
-// begins with it.
+/// The line that answers the first record of a schedule, or the refusal to open it; no line where there is no record. The text of a replay
+/// begins with it.
 pub fn answer_opening(heap: Global, bytes: &[u8]) -> Result<String, AllocError>
     ensures { IfOk result (λ text. string_bytes text ≡ opening_of bytes.now) }
 {

@@ -84,7 +84,7 @@ fn answers_over<S: Scheme>(
     Ok(Ok(answers))
 }
 
-// The same over the scheme of that name: full, owner with all slots nobody, version with counters from 0.
+/// The same over the scheme of that name: full, owner with all slots nobody, version with counters from 0.
 pub fn answers_by(
     heap: Global,
     name: SchemeName,

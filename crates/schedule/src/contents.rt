@@ -6,7 +6,7 @@ use crate::reader::{Part, Reader};
 use basis::refusal::Refusal;
 use std::alloc::{AllocError, Global};
 
-// The records of a schedule in their order, the refusal at which reading stopped, None where it came to the end, and the offset there.
+/// The records of a schedule in their order, the refusal at which reading stopped, None where it came to the end, and the offset there.
 #[derive(PartialEq, Eq, Debug, Drop)]
 pub struct Contents<'a> {
     pub parts: Vec<Part<'a>>,
@@ -14,7 +14,7 @@ pub struct Contents<'a> {
     pub stop: usize,
 }
 
-// Everything that the reader hands out of these bytes.
+/// Everything that the reader hands out of these bytes.
 pub fn read_whole(heap: Global, bytes: &[u8]) -> Result<Contents<'_>, AllocError>
     ensures { IfOk result (Holds bytes.entry) }
 {

@@ -5,8 +5,8 @@ ghost use Rattle.schedule.specs.Lines.{line_text};
 use basis::answer::Answer;
 use std::fmt;
 
-// The number of a record, 0 for what comes before the first, and what it is answered. A schedule has no number above 14,999: one byte, a setup of
-// seven bytes, and four at least for each record after it.
+/// The number of a record, 0 for what comes before the first, and what it is answered. A schedule has no number above 14,999: one byte, a setup of
+/// seven bytes, and four at least for each record after it.
 #[derive(Clone, Copy, PartialEq, Eq, Debug)]
 pub struct Line {
     pub number: u16,

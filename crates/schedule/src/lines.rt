@@ -104,7 +104,7 @@ fn push_answer(text: &mut String, answer: Answer) -> Result<(), AllocError>
     }
 }
 
-// The line of a record by its number: nothing is allocated, and nothing fails.
+/// The line of a record by its number: nothing is allocated, and nothing fails.
 #[inline(always)]
 pub fn line(number: u16, answer: Answer) -> Line
     ensures { result ≡ record { number = number; answer = answer } }
@@ -112,7 +112,7 @@ pub fn line(number: u16, answer: Answer) -> Line
     Line { number, answer }
 }
 
-// Adds a line. Where memory runs out, what stood before stays at the front of the text.
+/// Adds a line. Where memory runs out, what stood before stays at the front of the text.
 #[inline(always)]
 pub fn push_line(text: &mut String, line: Line) -> Result<(), AllocError>
     ensures { Adds (string_bytes text.old) (string_bytes text.new) result (line_text line) }
@@ -133,8 +133,8 @@ fn push_numbered(text: &mut String, first: u16, answers: &[Answer]) -> Result<()
     Ok(())
 }
 
-// Adds the lines of answers one after another, the first with that number, as far as their numbers are below 65,535; no schedule has one above
-// 14,999. Where memory runs out, what stood before stays at the front of the text.
+/// Adds the lines of answers one after another, the first with that number, as far as their numbers are below 65,535; no schedule has one above
+/// 14,999. Where memory runs out, what stood before stays at the front of the text.
 #[tactic(auto, using(std::proofs::lemmas::List::take_min))]
 pub fn push_lines(text: &mut String, first: u16, answers: &[Answer]) -> Result<(), AllocError>
     ensures { Adds (string_bytes text.old) (string_bytes text.new) result (lines_from first (take (65535 - first) answers.now)) }
@@ -143,7 +143,7 @@ pub fn push_lines(text: &mut String, first: u16, answers: &[Answer]) -> Result<(
     push_numbered(text, first, &answers[..numbered])
 }
 
-// A text of one line.
+/// A text of one line.
 pub fn text_of_line(heap: Global, line: Line) -> Result<String, AllocError>
     ensures { IfOk result (λ text. string_bytes text ≡ line_text line) }
 {

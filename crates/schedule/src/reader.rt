@@ -8,7 +8,7 @@ ghost use Rattle.schedule.specs.Reading.{open_refusal, cut_of, content_at, LiesA
 use basis::refusal::Refusal;
 use records::record::Record;
 
-// One record as it is handed out: its bytes from the call byte on, a part of the schedule, the offset of that byte, and what the record says.
+/// One record as it is handed out: its bytes from the call byte on, a part of the schedule, the offset of that byte, and what the record says.
 #[derive(Clone, Copy, PartialEq, Eq, Debug)]
 pub struct Part<'a> {
     pub bytes: &'a [u8],
@@ -16,7 +16,7 @@ pub struct Part<'a> {
     pub content: Record,
 }
 
-// A schedule that is being read: what is left of it, how many bytes it has in all, and whether its first record is still to come.
+/// A schedule that is being read: what is left of it, how many bytes it has in all, and whether its first record is still to come.
 #[derive(Clone, Copy, PartialEq, Eq, Debug)]
 pub struct Reader<'a> {
     rest: &'a [u8],
@@ -68,7 +68,7 @@ fn content_at(first: bool, bytes: &[u8]) -> Result<Record, Refusal>
 }
 
 impl<'a> Reader<'a> {
-    // A reader at the first record; refused are more than 60,000 bytes, and then a first byte that is not there or not 1.
+    /// A reader at the first record; refused are more than 60,000 bytes, and then a first byte that is not there or not 1.
     pub fn open(bytes: &'a [u8]) -> Result<Reader<'a>, Refusal>
         ensures { MatchResult result (Opened bytes.entry) (λ e. open_refusal bytes.now ≡ Some (refusal e).number) }
     {
@@ -106,14 +106,14 @@ impl<'a> Reader<'a> {
         }
     }
 
-    // The offset at which the next record begins.
+    /// The offset at which the next record begins.
     pub fn offset(&self) -> usize
         ensures { result ≡ self.now.total - length self.now.rest.now }
     {
         self.total.saturating_sub(self.rest.len())
     }
 
-    // The next record, None at the end, or the refusal of what stands there, which is then given again at each further asking.
+    /// The next record, None at the end, or the refusal of what stands there, which is then given again at each further asking.
     pub fn next(&mut self) -> Result<Option<Part<'a>>, Refusal>
         ensures { Asked self.old result self.new }
     {

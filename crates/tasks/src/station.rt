@@ -20,7 +20,7 @@ use list_window::index::Index;
 use list_window::row::{Doing, Row};
 use marks::scheme::Scheme;
 
-// What an index keeps, the mask, and the slips of the two tasks, whose seats are held. It cannot be let go, since the slips cannot.
+/// What an index keeps, the mask, and the slips of the two tasks, whose seats are held. It cannot be let go, since the slips cannot.
 pub struct Station<S> {
     cells: [Cell<Wear>; 8],
     rows: [Row<Wear>; 16],
@@ -32,7 +32,7 @@ pub struct Station<S> {
     ghost manned: { Manned (state_of cells rows anchor scheme) host.seat cleaner.seat mask.level },
 }
 
-// What an index keeps that both tasks have left.
+/// What an index keeps that both tasks have left.
 #[derive(Drop)]
 pub struct Closed<S> {
     cells: [Cell<Wear>; 8],

@@ -10,7 +10,7 @@ use key_types::wear::Wear;
 use list_cells::cell::Cell;
 use std::fmt;
 
-// The two tasks.
+/// The two tasks.
 #[derive(Clone, Copy, PartialEq, Eq, Debug)]
 pub enum Task {
     Host,
@@ -41,7 +41,7 @@ impl fmt::Display for Task {
     }
 }
 
-// What a task that has a slip may ask, and go on with it.
+/// What a task that has a slip may ask, and go on with it.
 #[derive(Clone, Copy, PartialEq, Eq, Debug)]
 pub enum Ask {
     Begin { kind: Kind, target: Wear },
@@ -49,14 +49,14 @@ pub enum Ask {
     Abandon,
 }
 
-// One turn of a task: one call.
+/// One turn of a task: one call.
 #[derive(Clone, Copy, PartialEq, Eq, Debug)]
 pub struct Turn {
     pub task: Task,
     pub ask: Ask,
 }
 
-// The places that the two tasks have marked.
+/// The places that the two tasks have marked.
 #[derive(Clone, Copy, PartialEq, Eq, Debug)]
 pub struct Marks {
     pub host: Option<Place>,
@@ -75,7 +75,7 @@ impl Marks {
     }
 }
 
-// What is seen of a turn: the marks before, the answer, and then the marks, the cells and the first listed cell.
+/// What is seen of a turn: the marks before, the answer, and then the marks, the cells and the first listed cell.
 #[derive(Clone, Copy, PartialEq, Eq, Debug)]
 pub struct Seen {
     pub before: Marks,
@@ -85,7 +85,7 @@ pub struct Seen {
     pub head: Option<Place>,
 }
 
-// A line of the account: a turn, and what was seen of it once it was taken.
+/// A line of the account: a turn, and what was seen of it once it was taken.
 #[derive(Clone, Copy, PartialEq, Eq, Debug)]
 pub struct Line {
     pub turn: Turn,

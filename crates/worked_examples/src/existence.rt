@@ -11,9 +11,9 @@ use schemes::owner::Owner;
 use schemes::pair::Pair;
 use schemes::version::Version;
 
-// Over the full, the owner and the version scheme, and over a pair of any two that can carry out their orders: a making for 1 to 1,008
-// given cells, windows of 1 to 64 and every value that the scheme's code makes, and after every run every call. A pair can then carry out
-// its own orders, so the same holds of pairs of pairs.
+/// Over the full, the owner and the version scheme, and over a pair of any two that can carry out their orders: a making for 1 to 1,008
+/// given cells, windows of 1 to 64 and every value that the scheme's code makes, and after every run every call. A pair can then carry out
+/// its own orders, so the same holds of pairs of pairs.
 pub fn runs_are_there_by_name<K: Key, F: Scheme, S: Scheme>() -> u8
     ensures full { let it = ⟦<Full as Scheme>⟧ in ThereAreRuns K.Key.below it.table it.strict it.acts full_formed 1008 64 }
     ensures owner { let it = ⟦<Owner as Scheme>⟧ in ThereAreRuns K.Key.below it.table it.strict it.acts owner_formed 1008 64 }
@@ -25,7 +25,7 @@ pub fn runs_are_there_by_name<K: Key, F: Scheme, S: Scheme>() -> u8
     proved::runs_are_there_by_name::<K, F, S>()
 }
 
-// And over full and owner side by side with version beside them: what is promised of two schemes, used twice.
+/// And over full and owner side by side with version beside them: what is promised of two schemes, used twice.
 pub fn runs_are_there_over_a_pair_of_a_pair<K: Key>() -> u8
     ensures { let it = ⟦<Pair<Pair<Full, Owner>, Version> as Scheme>⟧ in
         ThereAreRuns K.Key.below it.table it.strict it.acts (pair_formed (pair_formed full_formed owner_formed) version_formed)
