@@ -16,7 +16,7 @@ use Rattle.schemes.specs.Clearing.{names, cleared}
 use Rattle.schemes.specs.Spread.{slot}
 use Rattle.schemes.specs.Full.{full_state, full_act, full_get}
 use Rattle.schemes.specs.Owner.{owner_state, owner_act, owner_get}
-use Rattle.schemes.specs.Version.{seen_of, stamped, kept_in, version_state, version_act, version_get}
+use Rattle.schemes.specs.Version.{dated_of, stamped, kept_in, version_state, version_act, version_get}
 use Rattle.schemes.specs.declared.pair.Pair.{Pair}
 use Rattle.schemes.specs.Pair.{uses_second, paired, pair_table, acts_in_one, pair_acts}
 use Rattle.schemes.proofs.Cleared.{none_is_not_some}
@@ -140,8 +140,8 @@ module _ (a : Version) (good : version_formed a ≡ true) where
       → eqb (length b.marks) 16 ≡ true → eqb (length b.counters) 16 ≡ true
       → (b : Version) × Obeys (λ s. version_get (version_state s.kept)) false (ActsBy (λ s. version_state s.kept) version_act) o a b × (version_formed b ≡ true)
   version_carries o h b acted marks counters = (
-    record { kept = b; sound = version.version_sound a.kept b (stamps_sixteen, counters_sixteen) a.sound o h acted },
-    (acted, version.version_means a.kept b (stamps_sixteen, counters_sixteen) a.sound o h acted),
+    record { kept = b; none_ahead = version.version_none_ahead a.kept b (stamps_sixteen, counters_sixteen) a.none_ahead o h acted },
+    (acted, version.version_means a.kept b (stamps_sixteen, counters_sixteen) a.none_ahead o h acted),
     and_from (eqb (length b.marks) 16) (eqb (length b.counters) 16) marks counters,
   )
 
@@ -155,7 +155,7 @@ module _ (a : Version) (good : version_formed a ≡ true) where
   version_revokes : (p : ℕ) → (get_or a.kept.counters (slot p) 0 ≡ 4294967295) ⊎ (get_or a.kept.counters (slot p) 0 ≡ 4294967295 → ⊥)
       → (b : Version) × Obeys (λ s. version_get (version_state s.kept)) false (ActsBy (λ s. version_state s.kept) version_act) (revoke p) a b × (version_formed b ≡ true)
   version_revokes p (inl last) =
-      let test = λ (m : Option Stamped). kept_in (slot p) (option_map seen_of m) in
+      let test = λ (m : Option Stamped). kept_in (slot p) (option_map dated_of m) in
       let b : Stamps = record { marks = cleared test a.kept.marks; counters = set a.kept.counters (slot p) 0 } in
       version_carries (revoke p) tt b (version.restart_acted a.kept b p (slot p) refl last refl refl)
       (eq-eqb (length b.marks) 16 (length-map a.kept.marks (λ m. cond (test m) None m) ∙ stamps_sixteen)) (version_counted (slot p) 0)
@@ -180,7 +180,7 @@ pub version_able : Able (λ s. version_get (version_state s.kept)) false (ActsBy
 version_able = record {
   one = record {
     kept = record { marks = replicate 16 None; counters = replicate 16 0 };
-    sound = λ u p c e. none_is_not_some (sym (none_of seen_of 16 u) ∙ e);
+    none_ahead = λ u p c e. none_is_not_some (sym (none_of dated_of 16 u) ∙ e);
   };
   one_formed = refl;
   obeys = version_obeys;
