@@ -1,4 +1,4 @@
-// The calls of the singly linked index: an ordered set of keys in cells that the caller supplies.
+// The calls of the singly linked index, which keeps keys in order in memory that a caller lends.
 #![tactic(auto)]
 
 pub mod call;

@@ -35,7 +35,7 @@ fn relink<K: Key>(cells: &mut [Cell<K>], place: Place, link: Option<Place>)
 }
 
 // The cell at a place is flagged free; its key and its link stay.
-fn unlist<K: Key>(cells: &mut [Cell<K>], place: Place)
+fn flag_free<K: Key>(cells: &mut [Cell<K>], place: Place)
     ensures { map cell_of cells.new ≡ rewritten (map cell_of cells.old) place.number (flagged false) }
 {
     if let Some(cell) = cell_at(cells, place) {
@@ -67,7 +67,7 @@ pub fn free_cell<K: Key>(cells: &mut [Cell<K>], anchor: &mut Anchor, place: Plac
     ensures memory { lent_memory cells.new anchor.new ≡ freed place.number (lent_memory cells.old anchor.old) }
     ensures sizes { SameSizes anchor.old anchor.new }
 {
-    unlist(cells, place);
+    flag_free(cells, place);
     relink(cells, place, anchor.free);
     anchor.free = Some(place);
 }
