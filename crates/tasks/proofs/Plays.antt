@@ -18,7 +18,7 @@ use Rattle.tasks.specs.declared.turn.Task.{Task}
 use Rattle.tasks.specs.declared.turn.Task.TheVariants.{Host, Cleaner}
 use Rattle.tasks.specs.declared.turn.Turn.{Turn}
 use Rattle.tasks.specs.Turns.{what_asked, Called}
-use Rattle.tasks.specs.Stations.{state, seat, call, Same, Watched, Watches, ask_in, answer_in, Plays}
+use Rattle.tasks.specs.Stations.{state, seat, call, SameStation, Watched, Watches, ask_in, answer_in, Plays}
 
 module _ {S : Type 0} (table : S → Table) (strict : Bool) (acts : Order → S → S → Type 0) (d : Station S) where
   pub plays_none : Plays table strict acts d [] d
@@ -28,11 +28,11 @@ module _ {S : Type 0} (table : S → Table) (strict : Bool) (acts : Order → S 
   abbrev pub line : Turn → Seen → Line
   line t s = record { turn = t; seen = Some s }
 
-  seat_same : (d' : Station S) → Same d d' → (t : Task) → seat d' t ≡ seat d t
+  seat_same : (d' : Station S) → SameStation d d' → (t : Task) → seat d' t ≡ seat d t
   seat_same d' same Host = ap (λ (s : Slip). s.seat) same.host
   seat_same d' same Cleaner = ap (λ (s : Slip). s.seat) same.cleaner
 
-  pub plays_more : (ls : List Line) (d' d'' : Station S) (t : Turn) (s : Seen) → Same d d' → Plays table strict acts d ls d' → Called table strict acts (state d') (call d' t) s.answer (state d'') → Plays table strict acts d (ls ++ line t s ∷ []) d''
+  pub plays_more : (ls : List Line) (d' d'' : Station S) (t : Turn) (s : Seen) → SameStation d d' → Plays table strict acts d ls d' → Called table strict acts (state d') (call d' t) s.answer (state d'') → Plays table strict acts d (ls ++ line t s ∷ []) d''
   plays_more ls d' d'' t s same plays made n w start asks answers long run =
       let before = plays n w start asks answers long run in
       let new : List Answer = before.0 in

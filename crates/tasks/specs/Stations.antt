@@ -9,13 +9,14 @@ use Rattle.list_law.specs.Performed.{Ask}
 use Rattle.list_law.specs.Driven.{Driven}
 use Rattle.key_types.specs.declared.wear.Wear.{Wear}
 use Rattle.ledger.specs.Tests.{test, first}
-use Rattle.ledger.specs.Ledger.{Call, join}
+use Rattle.ledger.specs.Ledger.{What, Call, join, leave}
 use Rattle.list_cells.specs.declared.cell.Cell.{Cell}
 use Rattle.list_cells.specs.Views.{cell_of}
 use Rattle.list_law.specs.Call.{State}
 use Rattle.list_law.specs.Making.{makes, Makes}
 use Rattle.list_window.specs.Applied.{state_of}
 use Rattle.list.specs.Calls.{call_of}
+use Rattle.tasks.specs.declared.station.Closed.{Closed}
 use Rattle.tasks.specs.declared.station.Station.{Station}
 use Rattle.marks.specs.Meaning.{Table, Order}
 use Rattle.marks.specs.Marks.{numbered}
@@ -29,6 +30,10 @@ use Rattle.tasks.specs.Turns.{what_asked, seat_by, Called}
 -- what the index keeps
 abbrev pub state : {S : Type 0} → Station S → State Wear S
 state d = state_of d.cells d.rows d.anchor d.scheme
+
+-- what it keeps once both tasks have left
+abbrev pub closed_state : {S : Type 0} → Closed S → State Wear S
+closed_state e = state_of e.cells e.rows e.anchor e.scheme
 
 -- the seat of a task, by its slip
 abbrev pub seat : {S : Type 0} → Station S → Task → ℕ
@@ -44,7 +49,7 @@ pub record Marked {S : Type 0} (table : S → Table) (d : Station S) (m : Marks)
   pub cleaner : numbered m.cleaner ≡ table d.scheme d.cleaner.seat
 
 -- the slips stay, and the number of cells
-pub record Same {S : Type 0} (d d' : Station S) : Type 0 where
+pub record SameStation {S : Type 0} (d d' : Station S) : Type 0 where
   pub host : d'.host ≡ d.host
   pub cleaner : d'.cleaner ≡ d.cleaner
   pub cells : length d'.cells ≡ length d.cells
@@ -58,7 +63,7 @@ pub record Watched {S : Type 0} (table : S → Table) (strict : Bool) (acts : Or
   pub after : Marked table d' seen.after
   pub cells : seen.cells ≡ d'.cells
   pub head : seen.head ≡ d'.anchor.head
-  pub same : Same d d'
+  pub same : SameStation d d'
 
 -- the same for these lines, whose turns led from d to d' one after another
 abbrev pub Watches : {S : Type 0} → (S → Table) → Bool → (Order → S → S → Type 0) → Station S → List Line → Station S → Type 0
@@ -66,12 +71,12 @@ Watches table strict acts d [] d' = d' ≡ d
 Watches {S} table strict acts d (l ∷ ls) d' = (e : Station S) × Watched table strict acts d l e × Watches table strict acts e ls d'
 
 -- what is asked in a line, by host and cleaner at these seats
-abbrev pub asking : ℕ → ℕ → Line → Ask Wear
-asking h k l = record { seat = seat_by h k l.turn.task; level = 0; what = what_asked l.turn.ask }
+abbrev pub ask_at : ℕ → ℕ → Line → Ask Wear
+ask_at h k l = record { seat = seat_by h k l.turn.task; level = 0; what = what_asked l.turn.ask }
 
 -- the same, at the seats of their slips
 abbrev pub ask_in : {S : Type 0} → Station S → Line → Ask Wear
-ask_in d = asking d.host.seat d.cleaner.seat
+ask_in d = ask_at d.host.seat d.cleaner.seat
 
 -- the answer that was seen of a turn, if it was taken
 abbrev pub answer_in : Line → Option Answer
@@ -84,9 +89,22 @@ Plays {S} table strict acts d ls d' =
     (n w : ℕ) (start : State Wear S) (asks : List (Ask Wear)) (answers : List Answer) → length d.cells ≡ n → Driven wear_below table strict acts n w start asks answers (state d) →
     (new : List Answer) × (map answer_in ls ≡ map Some new) × Driven wear_below table strict acts n w start (asks ++ map (ask_in d) ls) (answers ++ new) (state d')
 
--- a join of seat t
+-- a call of seat t, at mask level 0: a join, and a leave
+abbrev pub unmasked : ℕ → What Wear → Ask Wear
+unmasked t what = record { seat = t; level = 0; what = what }
+
 abbrev pub joining : ℕ → Ask Wear
-joining t = record { seat = t; level = 0; what = join }
+joining t = unmasked t join
+
+abbrev pub leaving : ℕ → Ask Wear
+leaving t = unmasked t leave
+
+-- the cleaner and then the host left, and both leaves were accepted: whatever lawful run led to d, the run with these two calls leads to e
+-- and is lawful
+abbrev pub BothLeave : {S : Type 0} → (S → Table) → Bool → (Order → S → S → Type 0) → Station S → Closed S → Type 0
+BothLeave {S} table strict acts d e =
+    (n w : ℕ) (start : State Wear S) (asks : List (Ask Wear)) (answers : List Answer) → length d.cells ≡ n → Driven wear_below table strict acts n w start asks answers (state d) →
+    Driven wear_below table strict acts n w start (asks ++ leaving d.cleaner.seat ∷ leaving d.host.seat ∷ []) (answers ++ Answer.Ok ∷ Answer.Ok ∷ []) (closed_state e)
 
 -- why no station is opened over n cells with window w for host and cleaner at these seats, if one is not: the refusal of the making, of
 -- the host's join or of the cleaner's
@@ -104,9 +122,9 @@ pub record Begun {S : Type 0} (table : S → Table) (strict : Bool) (acts : Orde
   pub made : Makes wear_below table strict acts lent w Answer.Ok start
   pub run : Driven wear_below table strict acts (length given) w start (joining h ∷ joining k ∷ []) (Answer.Ok ∷ Answer.Ok ∷ []) (state d)
 
--- host and cleaner joined an index over the given cells and scheme with window w at these seats and took the turns of these lines, each of
--- which shows its turn: the answers are those of a lawful run of exactly these calls
-pub record RanTasks {S : Type 0} (table : S → Table) (strict : Bool) (acts : Order → S → S → Type 0) (given : List (Cell Wear)) (scheme : S) (w h k : ℕ) (ls : List Line) : Type 0 where
+-- host and cleaner joined an index over the given cells and scheme with window w at these seats, took the turns of these lines, each of
+-- which shows its turn, and left, and this is what the index then kept: the answers are those of a lawful run of exactly these calls
+pub record RanTasks {S : Type 0} (table : S → Table) (strict : Bool) (acts : Order → S → S → Type 0) (given : List (Cell Wear)) (scheme : S) (w h k : ℕ) (ls : List Line) (end : Closed S) : Type 0 where
   pub opened : Station S
   pub begun : Begun table strict acts given scheme w h k opened
   pub seats : (opened.host.seat ≡ h) × (opened.cleaner.seat ≡ k)
@@ -114,4 +132,6 @@ pub record RanTasks {S : Type 0} (table : S → Table) (strict : Bool) (acts : O
   pub watched : Watches table strict acts opened ls last
   pub answers : List Answer
   pub shown : map answer_in ls ≡ map Some answers
-  pub run : Driven wear_below table strict acts (length given) w begun.start (joining h ∷ joining k ∷ map (asking h k) ls) (Answer.Ok ∷ Answer.Ok ∷ answers) (state last)
+  -- up to the last turn, and with both leaves
+  pub run : Driven wear_below table strict acts (length given) w begun.start (joining h ∷ joining k ∷ map (ask_at h k) ls) (Answer.Ok ∷ Answer.Ok ∷ answers) (state last)
+  pub whole : Driven wear_below table strict acts (length given) w begun.start (joining h ∷ joining k ∷ (map (ask_at h k) ls ++ leaving k ∷ leaving h ∷ [])) (Answer.Ok ∷ Answer.Ok ∷ (answers ++ Answer.Ok ∷ Answer.Ok ∷ [])) (closed_state end)

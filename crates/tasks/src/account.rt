@@ -20,10 +20,10 @@ fn print_step(rt: &HostRuntime, task: Task, seen: Seen) -> io::Result<()> {
 fn print_turn(rt: &HostRuntime, task: Task, ask: Ask, seen: Seen) -> io::Result<()> {
     let answer = seen.answer;
     match ask {
-        Ask::Begin {
-            kind,
-            target: Wear { count, block },
-        } => println!(rt; "{task:<8} begin {kind} {count}/{block}: {answer}"),
+        Ask::Begin { kind, target } => {
+            let (count, block) = (target.count(), target.block());
+            println!(rt; "{task:<8} begin {kind} {count}/{block}: {answer}")
+        }
         Ask::Step => print_step(rt, task, seen),
         Ask::Abandon => println!(rt; "{task:<8} abandon: {answer}"),
     }
@@ -54,7 +54,7 @@ fn print_list(rt: &HostRuntime, cells: &[Cell<Wear>], head: Option<Place>) -> io
         cell.link.place().and_then(|place| placed(cells, place))
     });
     for (place, cell) in listed.take(cells.len()) {
-        let Wear { count, block } = cell.key;
+        let (count, block) = (cell.key.count(), cell.key.block());
         print!(rt; " {count}/{block} in {place}")?;
     }
     println!(rt; "")

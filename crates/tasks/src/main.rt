@@ -11,18 +11,19 @@ mod turn;
 
 use crate::account::print_account;
 use crate::plan::schedule;
-use crate::station::Station;
+use crate::station::{Closed, Station};
 use crate::turn::Line;
 use basis::bounded::BankBit;
 use basis::refusal::Refusal;
 use key_types::wear::Wear;
 use list_cells::cell::Cell;
+use marks::scheme::Scheme;
 use schemes::full::Full;
 use schemes::pair::Pair;
-use marks::scheme::Scheme;
 use std::io;
 
-// Host and cleaner join an index that is made over the cells, take the turns of the lines, and leave. Refused, no turn is taken.
+// Host and cleaner join an index that is made over the cells, take the turns of the lines, and leave. What the index then keeps is handed
+// out. Refused, no turn is taken.
 fn run_tasks<S: Scheme + Drop>(
     cells: [Cell<Wear>; 8],
     scheme: S,
@@ -30,14 +31,13 @@ fn run_tasks<S: Scheme + Drop>(
     host: u8,
     cleaner: u8,
     lines: &mut [Line],
-) -> Result<(), Refusal>
+) -> Result<Closed<S>, Refusal>
     ensures turns { map (λ (l : Line). l.turn) lines.new ≡ map (λ (l : Line). l.turn) lines.old }
-    ensures ran { MatchResult result (λ _. RanTasks S.Scheme.table S.Scheme.strict S.Scheme.acts cells scheme window host cleaner lines.new) (λ e. (lines.new ≡ lines.old) × (not_opened (length cells) window host cleaner ≡ Some e)) }
+    ensures ran { MatchResult result (λ end. RanTasks S.Scheme.table S.Scheme.strict S.Scheme.acts cells scheme window host cleaner lines.new end) (λ e. (lines.new ≡ lines.old) × (not_opened (length cells) window host cleaner ≡ Some e)) }
 {
     let mut station = Station::open(cells, scheme, window, host, cleaner)?;
     station.play(lines);
-    station.close();
-    Ok(())
+    Ok(station.close())
 }
 
 // Eight cells, a window of 2, and two banks of marks: seat 4, the host's, is in the first and seat 5, the cleaner's, in the second.
@@ -45,9 +45,10 @@ fn run_tasks<S: Scheme + Drop>(
 fn run(lines: &mut [Line]) -> Result<(), Refusal> {
     let bit = BankBit::try_from(0)?;
     let banks = Pair::new(Full::new(), Full::new(), bit);
-    let key = Wear { count: 0, block: 0 };
+    let key = Wear::new(0, 0)?;
     let cell = Cell::new(key, None, false);
-    run_tasks([cell; 8], banks, 2, 4, 5, lines)
+    let _closed = run_tasks([cell; 8], banks, 2, 4, 5, lines)?;
+    Ok(())
 }
 
 fn main(rt: HostRuntime) -> io::Result<()> {

@@ -1,5 +1,5 @@
 // The turns of the two tasks, in order.
-ghost use Rattle.std.specs.Prelude.{◌≡◌};
+ghost use Rattle.std.specs.Prelude.{◌≡◌, ◌≤◌};
 ghost use Rattle.key_types.specs.Wear.{wear};
 ghost use Rattle.tasks.specs.Turns.{untaken};
 
@@ -10,9 +10,10 @@ use key_types::wear::Wear;
 // The lines of a task, by what it asks.
 impl Task {
     fn begins(self, kind: Kind, count: u16, block: u16) -> Line
+        requires { count ≤ 2875 }
         ensures { result ≡ untaken self (Ask.Begin kind (wear count block)) }
     {
-        let target = Wear { count, block };
+        let target = Wear::new(count, block).unwrap();
         Line::untaken(self, Ask::Begin { kind, target })
     }
 

@@ -32,6 +32,15 @@ pub struct Station<S> {
     ghost manned: { Manned (state_of cells rows anchor scheme) host.seat cleaner.seat mask.level },
 }
 
+// What an index keeps that both tasks have left.
+#[derive(Drop)]
+pub struct Closed<S> {
+    cells: [Cell<Wear>; 8],
+    rows: [Row<Wear>; 16],
+    anchor: Anchor,
+    scheme: S,
+}
+
 // The call that is asked, made by showing a slip.
 fn show<S: Scheme>(slip: &Slip, index: &mut Index<'_, Wear, S>, mask: &mut Mask, ask: Ask) -> Answer
     ensures called { CalledOn wear_below S.Scheme.table S.Scheme.strict S.Scheme.acts index.old (what_asked ask) slip.now.seat mask.old.level result index.new }
@@ -67,7 +76,7 @@ fn mark_of<S: Scheme>(slip: &Slip, scheme: &S) -> Option<Place>
 impl<S: Scheme + Drop> Station<S> {
     ghost use Rattle.std.specs.Prelude.{map, length, Some, IfOk, IfErr};
     ghost use Rattle.tasks.specs.Turns.{Called};
-    ghost use Rattle.tasks.specs.Stations.{state, call, Marked, Same, Watches, Plays, not_opened, Begun};
+    ghost use Rattle.tasks.specs.Stations.{state, call, Marked, SameStation, Watches, Plays, BothLeave, not_opened, Begun};
 
     // Makes an index over the cells, and the two tasks join. If the second is refused, the first leaves.
     pub(crate) fn open(
@@ -112,7 +121,7 @@ impl<S: Scheme + Drop> Station<S> {
     // A task makes a call, showing its slip.
     pub(crate) fn take(&mut self, turn: Turn) -> Answer
         ensures called { Called S.Scheme.table S.Scheme.strict S.Scheme.acts (state self.old) (call self.old turn) result (state self.new) }
-        ensures same { Same self.old self.new }
+        ensures same { SameStation self.old self.new }
     {
         let slip = slip_of(turn.task, &self.host, &self.cleaner);
         let mut index = Index::over(
@@ -141,7 +150,7 @@ impl<S: Scheme + Drop> Station<S> {
         ensures after { Marked S.Scheme.table self.new result.after }
         ensures cells { result.cells ≡ self.new.cells }
         ensures head { result.head ≡ self.new.anchor.head }
-        ensures same { Same self.old self.new }
+        ensures same { SameStation self.old self.new }
     {
         let before = self.marks();
         let answer = self.take(turn);
@@ -162,15 +171,17 @@ impl<S: Scheme + Drop> Station<S> {
         ensures turns { map (λ (l : Line). l.turn) lines.new ≡ map (λ (l : Line). l.turn) lines.old }
         ensures watched { Watches S.Scheme.table S.Scheme.strict S.Scheme.acts self.old lines.new self.new }
         ensures plays { Plays S.Scheme.table S.Scheme.strict S.Scheme.acts self.old lines.new self.new }
-        ensures same { Same self.old self.new }
+        ensures same { SameStation self.old self.new }
     {
         for line in lines.iter_mut() {
             line.seen = Some(self.watch(line.turn));
         }
     }
 
-    // Both tasks leave, and give their slips back.
-    pub(crate) fn close(self) {
+    // The cleaner and then the host leave, and give their slips back.
+    pub(crate) fn close(self) -> Closed<S>
+        ensures { BothLeave S.Scheme.table S.Scheme.strict S.Scheme.acts self result }
+    {
         let Station {
             mut cells,
             mut rows,
@@ -183,5 +194,11 @@ impl<S: Scheme + Drop> Station<S> {
         let mut index = Index::over(&mut cells, &mut rows, &mut anchor, &mut scheme);
         cleaner.leave(&mut index, &mut mask).unwrap();
         host.leave(&mut index, &mut mask).unwrap();
+        Closed {
+            cells,
+            rows,
+            anchor,
+            scheme,
+        }
     }
 }

@@ -11,7 +11,7 @@ use Rattle.list_window.specs.Rows.{row_of}
 use Rattle.list_window.specs.Lent.{lent_state}
 use Rattle.list.proofs.Held.{held_on, joined_on, leave_on}
 use Rattle.tasks.specs.Stations.{not_opened}
-use Rattle.tasks.proofs.Begun.{accepted, joins, driven_to}
+use Rattle.tasks.proofs.Begun.{accepted, accepted_more, driven_to}
 use Rattle.tasks.proofs.Refused.{sizes_right, all_away, other_row, refused_away, refused_second, host_refused}
 use Rattle.tasks.proofs.Manned.{ok_left, join_apart, manned_by, held_at, held_in}
 use Rattle.tasks.proofs.station.Station.open.Goals as goal
@@ -40,8 +40,8 @@ returns-in-Ok-clause-begun g c =
     let long = c.make.ensures.same.cells ∙ cells in
     let rows = c.make.ensures.same.rows ∙ ap length there.rows_now in
     let start = driven_at (length-map index.cells.now cell_of ∙ cells) refl (driven_none wear_below g.S.Scheme.table g.S.Scheme.strict g.S.Scheme.acts _ _ _ (made.runs fits)) in
-    let one = joins long rows refl start c.in_ok-host.ensures.called in
-    let two = joins (c.join.ensures.called.same.cells ∙ long) (c.join.ensures.called.same.rows ∙ rows) c.in_ok-host.ensures.level one c.in-Ok.ensures.called in
+    let one = accepted_more long rows refl refl start c.in_ok-host.ensures.called in
+    let two = accepted_more (c.join.ensures.called.same.cells ∙ long) (c.join.ensures.called.same.rows ∙ rows) c.in_ok-host.ensures.level refl one c.in-Ok.ensures.called in
     record { cells = search rules; lent = lent_state index; of_cells = ap (map cell_of) there.cells_now; of_scheme = there.scheme_now; start = _; made = made; run = driven_to (search rules) two }
 
 pub returns-in_err-host-clause-refused : goal.returns-in_err-host-clause-refused
