@@ -41,7 +41,10 @@ fn memory_is_given_back(rt: HostRuntime) -> Result<(), Fail> {
         let before = resident_pages(&rt)?;
         replay_often(heap, bytes.as_slice(), 10000)?;
         let after = resident_pages(&rt)?;
-        assert!(rt; after <= before.saturating_add(64), "{before} pages before, {after} after");
+        assert!(rt;
+            after <= before.saturating_add(64),
+            "{before} pages before, {after} after"
+        );
     }
     Ok(())
 }

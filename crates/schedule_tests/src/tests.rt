@@ -253,11 +253,7 @@ fn lines_have_their_number_and_answer(rt: HostRuntime) -> Result<(), Fail> {
             Answer::Refused(Refusal::ScheduleTooLong),
             "0 refused 9\n",
         ),
-        (
-            1,
-            Answer::Refused(Refusal::OutOfRange),
-            "1 refused 1\n",
-        ),
+        (1, Answer::Refused(Refusal::OutOfRange), "1 refused 1\n"),
         (9, Answer::Ok, "9 ok\n"),
         (10, Answer::Wait, "10 wait\n"),
         (99, Answer::Yes, "99 yes\n"),
