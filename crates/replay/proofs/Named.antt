@@ -17,10 +17,10 @@ use Rattle.replay.specs.Runs.{MadeAndRun, Answered}
 use Rattle.replay.proofs.Ran.{over_computes}
 
 -- what is said of a value that was made, if it was, in other words
-pub said : {X D E : Type 0} (r : Result (Result X D) E) (P : D → Type 0) (Q R : X → Type 0) → ((x : X) → Q x → R x) → IfOk r (λ o. MatchResult o Q P) → IfOk r (λ o. MatchResult o R P)
-said (Ok (Err d)) P Q R f h = h
-said (Ok (Ok x)) P Q R f h = f x h
-said (Err e) P Q R f h = h
+pub if_made : {X D E : Type 0} (r : Result (Result X D) E) (P : D → Type 0) (Q R : X → Type 0) → ((x : X) → Q x → R x) → IfOk r (λ o. MatchResult o Q P) → IfOk r (λ o. MatchResult o R P)
+if_made (Ok (Err d)) P Q R f h = h
+if_made (Ok (Ok x)) P Q R f h = f x h
+if_made (Err e) P Q R f h = h
 
 module _ (n w : ℕ) (asks : List (Ask Sector)) (answers : List Answer) (sizes : makes n 16 w ≡ true) where
   pub by_full : (m : full.Full) → full_state m ≡ full_new → MadeAndRun (λ (s : full.Full). full_get (full_state s)) true (ActsBy full_state full_act) (blank n) w m asks answers → Answered Full n w asks answers
