@@ -1,5 +1,5 @@
 // One call: the refusals that look at no row, and then the inner part, under the raised mask.
-ghost use Rattle.std.specs.Prelude.{◌≡◌, ◌<◌, ◌&&◌, map, length, Some, None, MatchResult, ◌==◌, nat_lt};
+ghost use Rattle.std.specs.Prelude.{◌≡◌, ◌<◌, ◌≤◌, ◌&&◌, map, length, Some, None, MatchResult, ◌==◌, nat_lt};
 ghost use Rattle.ledger.specs.Tests.{first};
 ghost use Rattle.list_law.specs.Call.{fits_anchor, early_refusals};
 ghost use Rattle.list_cells.specs.Views.{cell_of, anchor_of};
@@ -40,7 +40,7 @@ fn admit<K: Key, S: Scheme>(
     level: u8,
     request: Request<K>,
 ) -> Result<Seat, Refusal>
-    ensures { MatchResult result (λ t. (t.number ≡ seat) × ((level < 7) × (first (early_refusals (lent_state index.now) (call_on index.now (what_of request) seat level)) ≡ None))) (λ e. first (early_refusals (lent_state index.now) (call_on index.now (what_of request) seat level)) ≡ Some e) }
+    ensures { MatchResult result (λ t. (t.number ≡ seat) × ((level < 7) × (1 ≤ index.now.anchor.now.window) × (first (early_refusals (lent_state index.now) (call_on index.now (what_of request) seat level)) ≡ None))) (λ e. first (early_refusals (lent_state index.now) (call_on index.now (what_of request) seat level)) ≡ Some e) }
 {
     let seat = Seat::try_from(u16::from(seat))?;
     if !sizes_right(index) {

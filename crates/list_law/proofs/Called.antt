@@ -12,12 +12,11 @@ use Rattle.ledger.specs.Law.{Event, is_accepted, is_final, steps_of, ends_of, be
 use Rattle.ledger.proofs.Lawful as generic
 use Rattle.list_law.specs.Call.{State, Memory, memory, memory_of, row_at, anchor_after, rows_after}
 use Rattle.ledger.specs.Keys.{Permuted}
-use Rattle.list_law.specs.Law.{Entry, keys, Rule, list_index}
+use Rattle.list_law.specs.Law.{Entry, keys, Rule, list_index, most_waits}
 use Rattle.list_law.proofs.Lists.{clash}
 use Rattle.list_law.proofs.Shape.{Shape}
 use Rattle.list_law.proofs.Marks.{Stands}
 use Rattle.list_law.proofs.Invariant.{row_for, Inv, After, inv_after, is_running, seated_own, seated_other, row_own, row_other, placed_none}
-use Rattle.list_law.proofs.Width.{most}
 use Rattle.list_law.proofs.Held.{Held, held_over}
 
 -- a step that counts for seat u is a step, of seat u, and accepted
@@ -39,7 +38,7 @@ refused_apart r q d h = d (cc)
 
 module _ {K M : Type 0} (below : K → K → Bool) (table : M → Table) (strict : Bool) (acts : Order → M → M → Type 0) (n w : ℕ) (a : Ledger K) (s : State K M) (e : Event K) (s' : State K M) where
   abbrev pub Called : Type 0
-  Called = generic.Called below (list_index below table strict acts) (Inv below table n w) (Held table) (most n w) a s e s'
+  Called = generic.Called below (list_index below table strict acts) (Inv below table n w) (Held table) (most_waits n w) a s e s'
 
   -- a refused call changes nothing
   pub called_refused : Inv below table n w a s → s' ≡ s → (r : Refusal) → e.answer ≡ Refused r → r ≢ BadLink → e.told ≡ nothing → reply below a e.call e.told ≡ replied (Refused r) a → Called

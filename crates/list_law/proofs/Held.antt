@@ -3,10 +3,10 @@ use Rattle.std.proofs.Common.{◌≡◌, ℕ, zero, suc, pred, ◌≤◌, Bool, 
 use Rattle.std.proofs.lemmas.Bool.{both_ways}
 use Rattle.marks.specs.Meaning.{Table}
 use Rattle.list_law.specs.Call.{Link, State, row_at, reach}
-use Rattle.list_law.specs.Law.{Entry, entry, Leads, first_link, link_behind}
+use Rattle.list_law.specs.Law.{Entry, entry, Leads, first_link, link_behind, most_waits}
 use Rattle.list_law.proofs.Chain.{leads_join, leads_split, leads_links, front_of}
 use Rattle.list_law.proofs.Walk.{Started}
-use Rattle.list_law.proofs.Width.{reach_least, reach_some, reach_again, low, most, most_holds}
+use Rattle.list_law.proofs.Width.{reach_least, reach_some, reach_again, low, most_holds}
 use Rattle.list_law.proofs.Invariant.{is_running}
 
 -- the seat's mark stands, and that many entries or more lead up to it
@@ -83,7 +83,7 @@ module _ {K M : Type 0} (below : K → K → Bool) (table : M → Table) (s s' :
         far = omega (arith, length-append (b.before ++ entry b.place b.key ∷ []) fs, length-append b.before (entry b.place b.key ∷ []), b.far, long, width, wide);
       }
 
-  way_held : (c : ℕ) → Way c → Held table s' t (suc c) × (suc c ≤ most n s.anchor.window t)
+  way_held : (c : ℕ) → Way c → Held table s' t (suc c) × (suc c ≤ most_waits n s.anchor.window t)
   way_held c way =
       let front = front_of true s.cells s.anchor.head listed (way.before ++ entry p y ∷ []) way.end from_head (leads_links true s.cells s.anchor.head (way.before ++ entry p y ∷ []) way.end way.leads) in
       let short : low t s.anchor.window (suc c) ≤ n =
@@ -101,6 +101,6 @@ module _ {K M : Type 0} (below : K → K → Bool) (table : M → Table) (s s' :
         most_holds n s.anchor.window t c wide short,
       )
 
-  pub held_waits : (c : ℕ) → is_running (row_at s.rows t) ≡ true → Held table s t c → Held table s' t (suc c) × (suc c ≤ most n s.anchor.window t)
+  pub held_waits : (c : ℕ) → is_running (row_at s.rows t) ≡ true → Held table s t c → Held table s' t (suc c) × (suc c ≤ most_waits n s.anchor.window t)
   held_waits zero runs h = way_held 0 first_way
   held_waits (suc c) runs h = way_held (suc c) (next_way c (h runs))

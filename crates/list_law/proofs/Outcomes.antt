@@ -12,13 +12,12 @@ use Rattle.ledger.specs.Ledger as plain
 use Rattle.ledger.specs.Ledger.{Ledger, step, nothing, seated, steps, reply, replied}
 use Rattle.ledger.specs.Law.{Event, is_accepted, is_final, steps_of, begins_of}
 use Rattle.list_law.specs.Call.{reach, State, memory, memory_of, row_at, Effect, effect, Obeys, Did, anchor_after, rows_after, refused, waiting}
-use Rattle.list_law.specs.Law.{Entry, entry, Rule, Waits}
+use Rattle.list_law.specs.Law.{Entry, entry, Rule, Waits, most_waits}
 use Rattle.list_law.proofs.Shape.{Shape}
 use Rattle.list_law.proofs.Marks.{Stands, In, stands_kept, kept_strict, kept_or_none, moved}
 use Rattle.list_law.proofs.Walk.{Started}
 use Rattle.list_law.proofs.Waits.{Rules}
 use Rattle.list_law.proofs.Invariant.{row_for, Placed, Inv, After, inv_after, is_running, row_other, running_there}
-use Rattle.list_law.proofs.Width.{most}
 use Rattle.list_law.proofs.Held.{Held, held_kept, held_waits}
 use Rattle.list_law.proofs.Called.{Called, Outcome, steps_parts}
 
@@ -175,9 +174,9 @@ module _ {K M : Type 0} (below : K → K → Bool) (table : M → Table) (strict
         wide : 1 ≤ s.anchor.window
         wide = omega (arith, v.window, v.sized.some_window)
 
-        go : (u c : ℕ) → e.call.seat ≡ u → Held table s u c → Held table s' u (suc c) × (suc c ≤ most n w u)
-        go u c same h = subst (λ z. Held table s' z (suc c) × (suc c ≤ most n w u)) same
-            (subst (λ z. Held table s' e.call.seat (suc c) × (suc c ≤ most n z e.call.seat)) v.window
+        go : (u c : ℕ) → e.call.seat ≡ u → Held table s u c → Held table s' u (suc c) × (suc c ≤ most_waits n w u)
+        go u c same h = subst (λ z. Held table s' z (suc c) × (suc c ≤ most_waits n w z)) same
+            (subst (λ z. Held table s' e.call.seat (suc c) × (suc c ≤ most_waits n z e.call.seat)) v.window
             (held_waits below table s s' e.call.seat n x v.listed start wide v.shape.from_head (omega (arith, v.shape.total)) fs p y bs rest-is long (cells_is E is) (anchor_is E is) moved_marks.0 c runs
             (subst (λ z. Held table s z c) (sym same) h)))
 

@@ -1,6 +1,6 @@
 -- What one call does to the cells, rows, anchor and marks of a singly linked index: for every input, cells from elsewhere (any
 -- links, flags and keys) included. Assumes nothing.
-use Rattle.std.specs.Prelude.{◌≡◌, ℕ, zero, suc, pred, Bool, true, false, cond, not, ◌&&◌, List, [], ◌∷◌, length, Some, None, Option, ◌==◌, nat_le, nat_lt, slice_set}
+use Rattle.std.specs.Prelude.{◌≡◌, ℕ, zero, suc, pred, Bool, true, false, cond, not, ◌%◌, ◌&&◌, List, [], ◌∷◌, length, Some, None, Option, ◌==◌, nat_le, nat_lt, slice_set}
 use Rattle.std.specs.List.{slice_get}
 use Rattle.basis.specs.declared.kind.Kind.{Kind}
 use Rattle.basis.specs.declared.kind.Kind.TheVariants.{Lookup, Insert, Remove}
@@ -56,9 +56,11 @@ pub record Memory (K : Type 0) : Type 0 where
 abbrev pub memory : {K : Type 0} → List (Cell K) → Link → Link → Memory K
 memory cs h f = record { cells = cs; head = h; free = f }
 
--- the width of seat t's next window, with window w: how many cells it may meet by links from its mark, or from the head
+-- the width of seat t's next window, where the anchor's window is w: how many cells it may meet by links. From the head it is one of 1 to w,
+-- by the seat, so that seats that begin together do not all wait at one cell; from a mark it is w
 unfoldable pub reach : ℕ → ℕ → Option ℕ → ℕ
-reach t w mark = w
+reach t w None = suc (t % w)
+reach t w (Some p) = w
 
 -- what a link leads to, for a window on its way to a target
 pub data Met : Type 0 where

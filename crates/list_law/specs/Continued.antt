@@ -1,6 +1,5 @@
 -- What a making and a call promise of the runs that led to them: the run goes on, and is lawful. Assumes nothing.
-use Rattle.std.specs.Prelude.{◌≡◌, ℕ, suc, ◌+◌, ◌*◌, ◌/◌, Bool, List, [], ◌∷◌}
-use Rattle.basis.specs.declared.kind.Kind.{Kind}
+use Rattle.std.specs.Prelude.{◌≡◌, ℕ, Bool, List, [], ◌∷◌}
 use Rattle.basis.specs.declared.answer.Answer.{Answer}
 use Rattle.marks.specs.Meaning.{Table, Order}
 use Rattle.ledger.specs.Ledger.{Call}
@@ -8,11 +7,7 @@ use Rattle.ledger.specs.Lending.{looks_at_cells, looks_at_rows, Lendable, own_af
 use Rattle.ledger.specs.Law.{Event, Run, more, Answers, Lawful, fed}
 use Rattle.list_law.specs.Call.{State, effect}
 use Rattle.list_law.specs.Runs.{Next}
-use Rattle.list_law.specs.Law.{list_index}
-
--- (k + 1) × ⌊n / w⌋ + 1 accepted steps, for every seat and kind
-abbrev pub limit : ℕ → ℕ → ℕ → Kind → ℕ → ℕ
-limit n w t kind k = suc k * (n / w) + 1
+use Rattle.list_law.specs.Law.{list_index, limit}
 
 -- the event of a call on what it was lent
 abbrev pub happened : {K M : Type 0} → (K → K → Bool) → (M → Table) → State K M → Call K → Answer → Event K

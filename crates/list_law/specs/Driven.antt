@@ -5,9 +5,8 @@ use Rattle.marks.specs.Meaning.{Table, Order}
 use Rattle.ledger.specs.Ledger.{Call}
 use Rattle.ledger.specs.Law.{Event, Run, Lawful, start_of}
 use Rattle.list_law.specs.Call.{State, Did}
-use Rattle.list_law.specs.Law.{list_index}
+use Rattle.list_law.specs.Law.{list_index, limit}
 use Rattle.list_law.specs.Performed.{Ask, called}
-use Rattle.list_law.specs.Continued.{limit}
 
 -- the call of what a seat asks of an index of n cells
 abbrev pub call_asked : {K : Type 0} → ℕ → Ask K → Call K

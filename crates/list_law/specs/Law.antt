@@ -1,6 +1,6 @@
 -- What the law promises of a singly linked index: how its cells stand after every run, when a step waits and at which cell, and how many
 -- steps an operation takes. Assumes nothing.
-use Rattle.std.specs.Prelude.{◌≡◌, ℕ, suc, ◌+◌, ◌<◌, ◌≤◌, Bool, true, false, cond, ◌↔◌, List, [], ◌∷◌, ◌++◌, length, Some, None, Option, ◌==◌}
+use Rattle.std.specs.Prelude.{◌≡◌, ℕ, suc, ◌+◌, ◌-◌, ◌*◌, ◌/◌, ◌<◌, ◌≤◌, Bool, true, false, cond, ◌↔◌, List, [], ◌∷◌, ◌++◌, length, Some, None, Option, ◌==◌, nat_le}
 use Rattle.std.specs.List.{slice_get}
 use Rattle.basis.specs.declared.kind.Kind.{Kind}
 use Rattle.basis.specs.declared.answer.Answer.{Answer}
@@ -111,18 +111,27 @@ abbrev pub list_index : {K M : Type 0} → (K → K → Bool) → (M → Table) 
 list_index {K} {M} below table strict acts = record
     { State = State K M; Made = Made table; Next = Next below table strict acts; Rule = Rule below table; Sound = Sound below; strict = strict }
 
+-- how often in a row seat t can wait, on n cells with window w: not once if its window from the head may meet more cells than there are;
+-- else there, and then once for each w of the cells beyond
+abbrev pub most_waits : ℕ → ℕ → ℕ → ℕ
+most_waits n w t = cond (nat_le (reach t w None) n) (1 + (n - reach t w None) / w) 0
+
+-- after how many accepted steps an operation of seat t has answered, if others have changed the set k times meanwhile
+abbrev pub limit : ℕ → ℕ → ℕ → Kind → ℕ → ℕ
+limit n w t kind k = suc k * most_waits n w t + 1
+
 -- the law of the singly linked index over a scheme: every run of it is lawful, with this limit by cells, window, seat, kind and changes
 abbrev pub Law : {K M : Type 0} → (K → K → Bool) → (M → Table) → Bool → (Order → M → M → Type 0) → (ℕ → ℕ → ℕ → Kind → ℕ → ℕ) → Type 0
 Law below table strict acts = law.Law below (list_index below table strict acts)
 
--- the rule of waits alone, of every accepted step of a running seat after every run: with the width `width w`, w being the window that
--- the index was made with, and with the mark at `place p` for each place p that is the last of so many cells
-abbrev pub Windows : {K M : Type 0} → (K → K → Bool) → (M → Table) → Bool → (Order → M → M → Type 0) → (ℕ → ℕ) → (ℕ → ℕ) → Type 0
+-- the rule of waits alone, of every accepted step of a running seat after every run: with the width `width t w mark`, for a seat t with this
+-- mark, w being the window that the index was made with, and with the mark at `place p` for each place p that is the last of so many cells
+abbrev pub Windows : {K M : Type 0} → (K → K → Bool) → (M → Table) → Bool → (Order → M → M → Type 0) → (ℕ → ℕ → Option ℕ → ℕ) → (ℕ → ℕ) → Type 0
 Windows {K} {M} below table strict acts width place =
     (n w : ℕ) (es : List (Event K)) (s : State K M) → Run (list_index below table strict acts) n w es s →
     (e : Event K) (s' : State K M) → Next below table strict acts s e s' → (k : Kind) (x : K) →
     e.call.what ≡ step → (law.fed below n es).row e.call.seat ≡ running k x → is_accepted e.answer ≡ true →
     Waits below s.cells s.anchor.head (law.fed below n es).members (table s.marks e.call.seat) (table s'.marks e.call.seat) x
-    (width w) e.answer
-    × ((p : ℕ) → Meets below s.cells (first_link s.cells s.anchor.head (table s.marks e.call.seat)) x (width w) p →
+    (width e.call.seat w (table s.marks e.call.seat)) e.answer
+    × ((p : ℕ) → Meets below s.cells (first_link s.cells s.anchor.head (table s.marks e.call.seat)) x (width e.call.seat w (table s.marks e.call.seat)) p →
     table s'.marks e.call.seat ≡ Some (place p))

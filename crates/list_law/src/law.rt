@@ -1,8 +1,9 @@
 // The law across runs, as contracts: of the index over every kind of key and every scheme of marks.
-ghost use Rattle.std.specs.Prelude.{suc, ◌+◌, ◌*◌, ◌/◌, Bool};
+ghost use Rattle.std.specs.Prelude.{suc, ◌+◌, ◌*◌, Bool};
 ghost use Rattle.marks.specs.Meaning.{Table};
 ghost use Rattle.basis.specs.declared.refusal.Refusal.{Refusal};
-ghost use Rattle.list_law.specs.Law.{Law, Windows};
+ghost use Rattle.list_law.specs.Call.{reach};
+ghost use Rattle.list_law.specs.Law.{Law, Windows, most_waits};
 ghost use Rattle.list_law.specs.Elsewhere.{OthersServe};
 ghost use Rattle.list_law.specs.Existence.{unconstrained, RunsAreThere};
 
@@ -11,23 +12,25 @@ use keys::key::Key;
 use marks::scheme::Scheme;
 
 /// Every run is lawful: each answer is the ledger's, each wait is where the rule has it, the cells are sound after every
-/// call, and on a strict scheme an operation with (k + 1) × ⌊n / w⌋ + 1 accepted steps has answered.
+/// call, and on a strict scheme an operation of seat t has answered after (k + 1) × (1 + ⌊(n - f) / w⌋) + 1 accepted steps where
+/// its width from the head, f, is at most n, and after one where it is more.
 pub fn every_run_is_lawful<K: Key, S: Scheme>() -> u8
-    ensures { Law K.Key.below S.Scheme.table S.Scheme.strict S.Scheme.acts (λ n w t kind k. suc k * (n / w) + 1) }
+    ensures { Law K.Key.below S.Scheme.table S.Scheme.strict S.Scheme.acts (λ n w t kind k. suc k * most_waits n w t + 1) }
 {
     proved::every_run_is_lawful::<K, S>()
 }
 
 /// The same over plain marks, of which nothing is known but what the orders mean: whatever a scheme may do, this may do.
 pub fn every_run_over_plain_marks_is_lawful<K: Key>() -> u8
-    ensures { (keeps : Bool) → Law K.Key.below (λ (m : Table). m) keeps unconstrained (λ n w t kind k. suc k * (n / w) + 1) }
+    ensures { (keeps : Bool) → Law K.Key.below (λ (m : Table). m) keeps unconstrained (λ n w t kind k. suc k * most_waits n w t + 1) }
 {
     proved::every_run_over_plain_marks_is_lawful::<K>()
 }
 
-/// A window waits exactly where it meets w cells below its target, and its mark is then the last of these.
+/// A window waits exactly where it meets as many cells below its target as it is wide, and its mark is then the last of these. It is w wide
+/// from a mark, and 1 + t mod w wide from the head.
 pub fn windows_wait_at_the_last_cell<K: Key, S: Scheme>() -> u8
-    ensures { Windows K.Key.below S.Scheme.table S.Scheme.strict S.Scheme.acts (λ w. w) (λ p. p) }
+    ensures { Windows K.Key.below S.Scheme.table S.Scheme.strict S.Scheme.acts reach (λ p. p) }
 {
     proved::windows_wait_at_the_last_cell::<K, S>()
 }

@@ -1,5 +1,5 @@
 // The inner part of a call: all that changes a cell, a row, the anchor or a mark. It works only at mask level 7.
-ghost use Rattle.std.specs.Prelude.{◌≡◌, map};
+ghost use Rattle.std.specs.Prelude.{◌≡◌, ◌≤◌, map};
 ghost use Rattle.list_law.specs.Call.{row_at, turn, turn_effect};
 ghost use Rattle.list_window.specs.Rows.{row_of, doing_of};
 ghost use Rattle.list_window.specs.Turns.{what_of, turn_of};
@@ -37,7 +37,8 @@ impl<K: Key, S: Scheme> Index<'_, K, S> {
     /// What a request of a seat does, by its row.
     #[inline(always)]
     pub fn perform(&mut self, guard: &Guard, seat: Seat, request: Request<K>) -> Answer
-        requires { guard.now.mask.now.level ≡ 7 }
+        requires raised { guard.now.mask.now.level ≡ 7 }
+        requires wide { 1 ≤ self.old.anchor.now.window }
         ensures { AppliedTo S.Scheme.table S.Scheme.strict S.Scheme.acts seat.number (turn_effect K.Key.below (window_memory self.old) seat.number self.old.anchor.now.window (S.Scheme.table self.old.scheme.now seat.number) (turn seat.number (row_at (map row_of self.old.rows.now) seat.number) (what_of request))) self.old result self.new }
     {
         match turn_at(seat, self.doing(seat), request) {

@@ -1,5 +1,5 @@
 // One window: the walk, and what its end decides.
-ghost use Rattle.std.specs.Prelude.{◌≡◌, pred, map, slice_get};
+ghost use Rattle.std.specs.Prelude.{◌≡◌, ◌≤◌, pred, map, slice_get};
 ghost use Rattle.marks.specs.Marks.{numbered};
 ghost use Rattle.list_law.specs.Call.{reach, refused, ended, waiting, unlinked, on_present, taken_from, on_absent, decided, walked, window};
 ghost use Rattle.list_cells.specs.Views.{cell_of, found_of, met_of};
@@ -18,12 +18,17 @@ use list_cells::memory::{link_in, unlink};
 use list_cells::walk::{Met, cell_at, walk_from};
 use marks::scheme::Scheme;
 
-// How many cells the next window of a seat may meet, by the anchor's window and the seat's mark.
+// How many cells the next window of a seat may meet: from a mark as many as the anchor has it, from the head by the seat, so that tasks that
+// begin together do not all wait at one cell.
 #[tactic(auto, unfolding(list_law::specs::Call::reach))]
 fn width(seat: Seat, window: u8, mark: Option<Place>) -> u8
+    requires { 1 ≤ window }
     ensures { result ≡ reach seat.number window (numbered mark) }
 {
-    window
+    match mark {
+        Some(_) => window,
+        None => 1 + (seat.number() % u16::from(window)) as u8,
+    }
 }
 
 // Where the walk of a seat's next window ends, for a seat with that mark.
@@ -35,6 +40,7 @@ fn walk_behind<K: Key>(
     target: K,
     mark: Option<Place>,
 ) -> Option<Met>
+    requires { 1 ≤ anchor.now.window }
     ensures { met_of result ≡ walked K.Key.below (map cell_of cells.now) (numbered anchor.now.head) target (pred (reach seat.number anchor.now.window (numbered mark))) (numbered mark) }
 {
     let room = width(seat, anchor.window, mark).saturating_sub(1);
@@ -162,6 +168,7 @@ impl<K: Key, S: Scheme> Index<'_, K, S> {
     // Where the walk of a seat's next window ends, for the mark that the scheme answers.
     #[inline(always)]
     fn walk(&self, seat: Seat, target: K) -> Option<Met>
+        requires { 1 ≤ self.now.anchor.now.window }
         ensures { met_of result ≡ walked K.Key.below (map cell_of self.now.cells.now) (numbered self.now.anchor.now.head) target (pred (reach seat.number self.now.anchor.now.window (S.Scheme.table self.now.scheme.now seat.number))) (S.Scheme.table self.now.scheme.now seat.number) }
     {
         walk_behind(self.cells, self.anchor, seat, target, self.scheme.get(seat))
@@ -170,6 +177,7 @@ impl<K: Key, S: Scheme> Index<'_, K, S> {
     // One window of a running seat.
     #[inline(always)]
     pub(crate) fn run_window(&mut self, seat: Seat, kind: Kind, target: K) -> Answer
+        requires { 1 ≤ self.old.anchor.now.window }
         ensures { AppliedTo S.Scheme.table S.Scheme.strict S.Scheme.acts seat.number (window K.Key.below (window_memory self.old) seat.number self.old.anchor.now.window (S.Scheme.table self.old.scheme.now seat.number) kind target) self.old result self.new }
     {
         let met = self.walk(seat, target);
