@@ -33,7 +33,7 @@ returns-clause-called g c =
     let index = c.args.index.now in
     let lent = lent_state index in
     let call = call_on index (what_of c.args.request) c.args.seat c.args.mask.now.level in
-    let did = did_perform g.K.Key.below g.S.Scheme.table g.S.Scheme.strict g.S.Scheme.acts lent call c.in-Ok.taken.number c.in-Ok.ensures.0 c.in-Ok.ensures.1.1.1 c.perform.ensures.applied in
+    let did = did_perform g.K.Key.below g.S.Scheme.table g.S.Scheme.strict g.S.Scheme.acts lent call c.in-Ok.taken.number c.in-Ok.ensures.0 c.in-Ok.ensures.1.2 c.perform.ensures.applied in
     record {
       did = did;
       case = ap answer did.answer;
