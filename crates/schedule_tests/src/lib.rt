@@ -6,4 +6,6 @@ mod memory;
 #[cfg(test)]
 mod replays;
 #[cfg(test)]
+mod sixteen;
+#[cfg(test)]
 mod tests;

@@ -11,11 +11,11 @@ fn resident_pages(rt: &HostRuntime) -> Result<u64, Fail> {
     Ok(pages.parse::<u64>()?)
 }
 
-// A setup of 1,008 cells under that scheme, a join, and a hundred inserts, each with its step.
+// A setup of 1,008 cells under that scheme, a join, and a hundred inserts in falling order, so that each takes one step.
 fn schedule_of_inserts(heap: Global, scheme: u8) -> Result<Vec<u8>, AllocError> {
     let mut bytes = Vec::new(heap);
     bytes.extend_from_slice(&[1, 0, 5, 0, scheme, 3, 240, 64, 0, 2, 1, 0])?;
-    for sector in 0..100u8 {
+    for sector in (0..100u8).rev() {
         bytes.extend_from_slice(&[0, 6, 4, 0, 0, 0, 0, sector, 0, 2, 6, 0])?;
     }
     Ok(bytes)

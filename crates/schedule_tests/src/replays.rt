@@ -6,7 +6,7 @@ use std::test::Fail;
 
 // One call: its seat, and the sector of a begin. The tests write it as bytes themselves, so that no schedule is made with the code that reads it.
 #[derive(Clone, Copy, PartialEq, Eq, Debug)]
-enum Call {
+pub(crate) enum Call {
     Join(u8),
     Leave(u8),
     Lookup(u8, u32),
@@ -17,7 +17,12 @@ enum Call {
 }
 
 // The first byte and a setup: scheme (1 full, 2 owner, 3 version), cells and window.
-fn schedule(heap: Global, scheme: u8, cells: u16, window: u8) -> Result<Vec<u8>, AllocError> {
+pub(crate) fn schedule(
+    heap: Global,
+    scheme: u8,
+    cells: u16,
+    window: u8,
+) -> Result<Vec<u8>, AllocError> {
     let mut bytes = Vec::new(heap);
     let [high, low] = cells.to_be_bytes();
     bytes.extend_from_slice(&[1, 0, 5, 0, scheme, high, low, window])?;
@@ -29,7 +34,7 @@ fn push_begin(bytes: &mut Vec<u8>, byte: u8, seat: u8, sector: u32) -> Result<()
     bytes.extend_from_slice(&[0, 6, byte, seat, a, b, c, d])
 }
 
-fn push_call(bytes: &mut Vec<u8>, call: Call) -> Result<(), AllocError> {
+pub(crate) fn push_call(bytes: &mut Vec<u8>, call: Call) -> Result<(), AllocError> {
     match call {
         Call::Join(seat) => bytes.extend_from_slice(&[0, 2, 1, seat]),
         Call::Leave(seat) => bytes.extend_from_slice(&[0, 2, 2, seat]),
@@ -41,7 +46,7 @@ fn push_call(bytes: &mut Vec<u8>, call: Call) -> Result<(), AllocError> {
     }
 }
 
-fn push_calls(bytes: &mut Vec<u8>, calls: &[Call]) -> Result<(), AllocError> {
+pub(crate) fn push_calls(bytes: &mut Vec<u8>, calls: &[Call]) -> Result<(), AllocError> {
     for call in calls {
         push_call(bytes, *call)?;
     }
@@ -49,7 +54,7 @@ fn push_calls(bytes: &mut Vec<u8>, calls: &[Call]) -> Result<(), AllocError> {
 }
 
 // Each of the answers, which stand with commas between them, on a line with its number.
-fn numbered(heap: Global, answers: &str) -> Result<String, AllocError> {
+pub(crate) fn numbered(heap: Global, answers: &str) -> Result<String, AllocError> {
     let mut text = String::new(heap);
     for (index, answer) in answers.split(',').enumerate() {
         let number = index.saturating_add(1);
@@ -58,7 +63,7 @@ fn numbered(heap: Global, answers: &str) -> Result<String, AllocError> {
     Ok(text)
 }
 
-// Calls on three cells with window 2, and their answers.
+// Calls on three cells with window 2, and their answers. From the head seats 0 and 2 meet one cell, and seats 1 and 3 two.
 fn check_calls(
     rt: &impl Abort,
     heap: Global,
@@ -76,13 +81,14 @@ fn check_calls(
 }
 
 // Seat 0 fills the three cells; an insert into the full list answers full for a new key and no for a present one. Seat 1 walks to 30 and
-// waits at 20; seat 0 removes 20, and the very next step, of seat 2, takes the freed cell. Seat 1, whose mark is struck, begins again
-// at the head, waits and finds 30. Then 20 is missing, and so is 99.
-const STORY: [Call; 29] = [
+// waits at 20; seat 0 removes 20, and the very next step, of seat 3, takes the freed cell. Seat 1, whose mark is struck, begins again
+// at the head, waits and finds 30. Then 20 is missing, and so is 99. The file is samples/struck.schedule.
+const STORY: [Call; 32] = [
     Call::Join(0),
     Call::Insert(0, 10),
     Call::Step(0),
     Call::Insert(0, 20),
+    Call::Step(0),
     Call::Step(0),
     Call::Insert(0, 30),
     Call::Step(0),
@@ -90,20 +96,22 @@ const STORY: [Call; 29] = [
     Call::Insert(0, 40),
     Call::Step(0),
     Call::Step(0),
+    Call::Step(0),
     Call::Insert(0, 20),
+    Call::Step(0),
     Call::Step(0),
     Call::Join(1),
     Call::Lookup(1, 30),
     Call::Step(1),
-    Call::Join(2),
-    Call::Insert(2, 25),
+    Call::Join(3),
+    Call::Insert(3, 25),
     Call::Remove(0, 20),
     Call::Step(0),
-    Call::Step(2),
+    Call::Step(0),
+    Call::Step(3),
     Call::Step(1),
     Call::Step(1),
     Call::Lookup(1, 20),
-    Call::Step(1),
     Call::Step(1),
     Call::Remove(1, 99),
     Call::Step(1),
@@ -114,7 +122,7 @@ const STORY: [Call; 29] = [
 fn a_cell_is_freed_and_taken_under_a_walker(rt: HostRuntime) -> Result<(), Fail> {
     let heap = rt.alloc();
     let answers =
-        "ok,ok,ok,yes,ok,yes,ok,wait,yes,ok,wait,full,ok,no,ok,ok,wait,ok,ok,ok,yes,yes,wait,yes,ok,no,refused 7,ok,wait,no";
+        "ok,ok,ok,yes,ok,wait,yes,ok,wait,yes,ok,wait,wait,full,ok,wait,no,ok,ok,wait,ok,ok,ok,wait,yes,yes,wait,yes,ok,no,ok,wait,no";
     for scheme in 1..=3u8 {
         check_calls(&rt, heap, scheme, &STORY, answers)?;
     }
@@ -154,39 +162,54 @@ fn calls_are_refused_by_seat_and_row(rt: HostRuntime) -> Result<(), Fail> {
     Ok(())
 }
 
-// Two walkers that wait at the same cell by turns.
-const BESIDE: [Call; 16] = [
-    Call::Join(0),
-    Call::Insert(0, 30),
-    Call::Step(0),
-    Call::Insert(0, 20),
-    Call::Step(0),
-    Call::Insert(0, 10),
-    Call::Step(0),
-    Call::Join(1),
-    Call::Lookup(0, 40),
-    Call::Lookup(1, 40),
-    Call::Step(0),
-    Call::Step(1),
-    Call::Step(0),
-    Call::Step(1),
-    Call::Step(0),
-    Call::Step(1),
-];
+// Seat 0 and another seat walk by turns.
+fn beside(seat: u8) -> [Call; 16] {
+    [
+        Call::Join(0),
+        Call::Insert(0, 30),
+        Call::Step(0),
+        Call::Insert(0, 20),
+        Call::Step(0),
+        Call::Insert(0, 10),
+        Call::Step(0),
+        Call::Join(seat),
+        Call::Lookup(0, 40),
+        Call::Lookup(seat, 40),
+        Call::Step(0),
+        Call::Step(seat),
+        Call::Step(0),
+        Call::Step(seat),
+        Call::Step(0),
+        Call::Step(seat),
+    ]
+}
 
-// Under owner each reserve takes the slot from the other seat, so both begin again for ever; under full and version both arrive.
+// Seats 0 and 2 wait at the same cell. Under owner each reserve takes the slot from the other seat, so both begin again for ever; under full
+// and version both arrive.
 #[test]
 fn owners_of_one_slot_restart_each_other(rt: HostRuntime) -> Result<(), Fail> {
     let heap = rt.alloc();
-    let arrive = "ok,ok,ok,yes,ok,yes,ok,yes,ok,ok,ok,wait,wait,no,no,refused 7,refused 7";
+    let calls = beside(2);
+    let arrive = "ok,ok,ok,yes,ok,yes,ok,yes,ok,ok,ok,wait,wait,wait,wait,no,no";
     let restart = "ok,ok,ok,yes,ok,yes,ok,yes,ok,ok,ok,wait,wait,wait,wait,wait,wait";
-    check_calls(&rt, heap, 1, &BESIDE, arrive)?;
-    check_calls(&rt, heap, 2, &BESIDE, restart)?;
-    check_calls(&rt, heap, 3, &BESIDE, arrive)
+    check_calls(&rt, heap, 1, &calls, arrive)?;
+    check_calls(&rt, heap, 2, &calls, restart)?;
+    check_calls(&rt, heap, 3, &calls, arrive)
+}
+
+// Seats 0 and 1 wait at different cells, and both arrive under owner too.
+#[test]
+fn seats_of_different_widths_do_not_meet(rt: HostRuntime) -> Result<(), Fail> {
+    let heap = rt.alloc();
+    let arrive = "ok,ok,ok,yes,ok,yes,ok,yes,ok,ok,ok,wait,wait,wait,no,no,refused 7";
+    for scheme in 1..=3u8 {
+        check_calls(&rt, heap, scheme, &beside(1), arrive)?;
+    }
+    Ok(())
 }
 
 // Inserts keys 10 to 10 × count, the largest first, so that each insert takes one step; key 10 × (count - p) is at place p.
-fn push_fill(bytes: &mut Vec<u8>, count: u32) -> Result<(), AllocError> {
+pub(crate) fn push_fill(bytes: &mut Vec<u8>, count: u32) -> Result<(), AllocError> {
     push_call(bytes, Call::Join(0))?;
     for left in (1..count.saturating_add(1)).rev() {
         push_call(bytes, Call::Insert(0, left.saturating_mul(10)))?;
@@ -234,21 +257,21 @@ fn check_full_size(
     Ok(())
 }
 
-// A walk to the end of 1,008 cells takes 15 full windows of 64 and a rest, or 1,008 windows of 1; then it answers.
+// A walk of seat 0 to the end of 1,008 cells takes a window of one cell from the head, 15 of 64 and a rest, or 1,008 windows of 1; then it answers.
 #[test]
 fn a_list_of_all_cells_is_walked(rt: HostRuntime) -> Result<(), Fail> {
     let heap = rt.alloc();
     let beyond = Call::Lookup(0, 20000);
-    check_full_size(&rt, heap, 1, 64, beyond, 15, ",no")?;
-    check_full_size(&rt, heap, 2, 64, Call::Insert(0, 20000), 15, ",full")?;
-    check_full_size(&rt, heap, 3, 64, Call::Remove(0, 10080), 15, ",yes")?;
+    check_full_size(&rt, heap, 1, 64, beyond, 16, ",no")?;
+    check_full_size(&rt, heap, 2, 64, Call::Insert(0, 20000), 16, ",full")?;
+    check_full_size(&rt, heap, 3, 64, Call::Remove(0, 10080), 16, ",yes")?;
     check_full_size(&rt, heap, 1, 1, beyond, 1008, ",no")?;
     check_full_size(&rt, heap, 2, 1, Call::Lookup(0, 10080), 1007, ",yes")?;
     check_full_size(&rt, heap, 3, 1, Call::Insert(0, 10080), 1007, ",no")
 }
 
-// Seat 1 marks place 1; seat 0 removes the key at place 17, which is in the same slot. The full scheme keeps the mark; owner and
-// version drop it, and the walker begins again and waits once more.
+// Seat 1, which meets two cells from the head, marks place 16; seat 0 removes the key at place 0, which is in the same slot. The full scheme
+// keeps the mark; owner and version drop it, and the walker begins again and waits once more.
 fn check_same_slot(rt: &impl Abort, heap: Global, scheme: u8, more: &str) -> Result<(), Fail> {
     let mut bytes = schedule(heap, scheme, 18, 17)?;
     push_fill(&mut bytes, 18)?;
@@ -258,13 +281,14 @@ fn check_same_slot(rt: &impl Abort, heap: Global, scheme: u8, more: &str) -> Res
             Call::Join(1),
             Call::Lookup(1, 1000),
             Call::Step(1),
-            Call::Remove(0, 10),
+            Call::Remove(0, 180),
+            Call::Step(0),
             Call::Step(0),
             Call::Step(1),
             Call::Step(1),
         ],
     )?;
-    let mut answers = fill_answers(heap, 18, 0, ",ok,wait,ok,yes,")?;
+    let mut answers = fill_answers(heap, 18, 0, ",ok,wait,ok,wait,yes,")?;
     answers.push_str(more)?;
     assert_eq!(rt;
         replay(heap, bytes.as_slice())?.as_str(),
