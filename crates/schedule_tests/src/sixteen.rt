@@ -1,4 +1,4 @@
-// Sixteen seats that begin at the head together, with windows of more cells than there are seats: each marks another cell.
+// Sixteen seats that begin at the head together, with windows of sixteen cells and more: each marks another cell.
 use crate::replays::{Call, numbered, push_call, push_calls, push_fill, schedule};
 use replay::replay;
 use std::alloc::{AllocError, Global};
@@ -48,10 +48,10 @@ fn push_often(answers: &mut String, answer: &str, times: u32) -> Result<(), Allo
     Ok(())
 }
 
-// Each seat waits once, and then arrives; only the one whose mark is struck begins again, and waits once more.
-fn struck_answers(heap: Global, waits: u32) -> Result<String, AllocError> {
+// After so many inserts each seat waits once, and then arrives; only the one whose mark is struck begins again, and waits once more.
+fn struck_answers(heap: Global, keys: u32, waits: u32) -> Result<String, AllocError> {
     let mut answers = String::from_str(heap, "ok,ok")?;
-    push_often(&mut answers, ",ok,yes", 17)?;
+    push_often(&mut answers, ",ok,yes", keys)?;
     push_often(&mut answers, ",ok", 15)?;
     push_often(&mut answers, ",ok", 16)?;
     push_often(&mut answers, ",wait", 16)?;
@@ -63,21 +63,22 @@ fn struck_answers(heap: Global, waits: u32) -> Result<String, AllocError> {
     Ok(answers)
 }
 
-// On a list of seventeen keys.
+// On a list of so many keys.
 fn check_struck(
     rt: &impl Abort,
     heap: Global,
     scheme: u8,
+    keys: u16,
     window: u8,
     remover: u8,
     waits: u32,
     struck: u8,
 ) -> Result<(), Fail> {
-    let mut bytes = schedule(heap, scheme, 17, window)?;
-    push_fill(&mut bytes, 17)?;
+    let mut bytes = schedule(heap, scheme, keys, window)?;
+    push_fill(&mut bytes, u32::from(keys))?;
     push_lookups(&mut bytes)?;
     push_removal(&mut bytes, remover, waits, struck)?;
-    let answers = struck_answers(heap, waits)?;
+    let answers = struck_answers(heap, u32::from(keys), waits)?;
     assert_eq!(rt;
         replay(heap, bytes.as_slice())?.as_str(),
         numbered(heap, answers.as_str())?.as_str()
@@ -86,17 +87,19 @@ fn check_struck(
 }
 
 // Whichever of the first sixteen cells is removed, exactly one seat begins again. The places of these cells have different slots, so it is so on
-// relaxed schemes too. Full with window 20 and seat 7 is samples/sixteen.schedule.
+// relaxed schemes too. Full with sixteen keys and seat 7 is samples/sixteen.schedule.
 #[test]
 fn sixteen_seats_mark_sixteen_cells(rt: HostRuntime) -> Result<(), Fail> {
     let heap = rt.alloc();
     for scheme in 1..=3u8 {
-        for window in [20, 64] {
+        for (keys, window) in [(16, 16), (17, 20), (17, 64)] {
             for struck in 0..15u8 {
-                check_struck(&rt, heap, scheme, window, 15, 0, struck)?;
+                check_struck(&rt, heap, scheme, keys, window, 15, 0, struck)?;
             }
-            // seat 14 meets fifteen cells from the head, so it waits before it comes to the sixteenth
-            check_struck(&rt, heap, scheme, window, 14, 1, 15)?;
+        }
+        // seat 14 meets fifteen cells from the head, so it waits before it comes to the sixteenth
+        for window in [20, 64] {
+            check_struck(&rt, heap, scheme, 17, window, 14, 1, 15)?;
         }
     }
     Ok(())
