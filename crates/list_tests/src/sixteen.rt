@@ -17,14 +17,14 @@ use schemes::version::Version;
 use std::array;
 use std::process::Abort;
 
-// All seats join, and seat 0 inserts 10 to 200 in falling order, each in one step.
-fn fill<S: Scheme>(rt: &impl Abort, index: &mut Index<'_, Sector, S>, mask: &mut Mask) {
+// All seats join, and seat 0 inserts so many keys in falling order, each in one step.
+fn fill<S: Scheme>(rt: &impl Abort, index: &mut Index<'_, Sector, S>, mask: &mut Mask, count: u16) {
     for seat in 0..16u8 {
         assert_eq!(rt; join(index, mask, seat), Ok(()));
     }
-    for left in (1..21u32).rev() {
+    for left in (0..count).rev() {
         let target = Sector {
-            number: left.saturating_mul(10),
+            number: u32::from(left),
         };
         assert_eq!(rt; begin(index, mask, 0, Kind::Insert, target), Ok(()));
         assert_eq!(rt; step(index, mask, 0), Answer::Yes);
@@ -42,8 +42,8 @@ fn wait_each<S: Scheme>(rt: &impl Abort, index: &mut Index<'_, Sector, S>, mask:
     }
 }
 
-// On an index of twenty cells with that window. The first key is at place 19, the next at 18, and so on.
-fn check_made<S: Scheme>(rt: &impl Abort, scheme: &mut S, window: u8) {
+// On an index of so many cells with that window. The first key is at the last place, the next at the one before, and so on.
+fn check_made<S: Scheme>(rt: &impl Abort, scheme: &mut S, count: u16, window: u8) {
     let mut cells = [cell(7, None, true); 20];
     let mut rows = away();
     let mut anchor = Anchor {
@@ -53,21 +53,28 @@ fn check_made<S: Scheme>(rt: &impl Abort, scheme: &mut S, window: u8) {
         free: None,
     };
     let mut mask = Mask { level: 0 };
-    let mut index = Index::over(&mut cells, &mut rows, &mut anchor, scheme);
+    assert!(rt; count <= 20);
+    let mut index = Index::over(
+        &mut cells[0..usize::from(count)],
+        &mut rows,
+        &mut anchor,
+        scheme,
+    );
     assert_eq!(rt; make(&mut index, window), Ok(()));
-    fill(rt, &mut index, &mut mask);
+    fill(rt, &mut index, &mut mask, count);
     wait_each(rt, &mut index, &mut mask);
-    let expected = array::from_fn(|number| link_to(19u16.saturating_sub(number as u16)));
+    let last = count.saturating_sub(1);
+    let expected = array::from_fn(|number| link_to(last.saturating_sub(number as u16)));
     assert_eq!(rt; marks_of(scheme), expected);
 }
 
 // Sixteen places that follow one another have sixteen slots, so the relaxed schemes keep all marks too.
 #[test]
 fn sixteen_seats_mark_sixteen_cells(rt: HostRuntime) {
-    for window in [16, 20, 64] {
-        check_made(&rt, &mut Full::new(), window);
-        check_made(&rt, &mut Owner::new(), window);
-        check_made(&rt, &mut Version::new(0), window);
+    for (count, window) in [(16, 16), (20, 16), (20, 20), (20, 64)] {
+        check_made(&rt, &mut Full::new(), count, window);
+        check_made(&rt, &mut Owner::new(), count, window);
+        check_made(&rt, &mut Version::new(0), count, window);
     }
 }
 
