@@ -1,6 +1,6 @@
 // The worked examples as one theorem, and that no promise could be stronger.
-ghost use Rattle.std.specs.Prelude.{suc, ◌+◌, ◌*◌, ◌/◌};
-ghost use Rattle.worked_examples.specs.Worked.{Sharp};
+ghost use Rattle.std.specs.Prelude.{suc, pred};
+ghost use Rattle.worked_examples.specs.Sharp.{Sharp};
 ghost use Rattle.worked_examples.specs.Examples.{Examples};
 
 use crate::proved;
@@ -16,7 +16,7 @@ pub fn worked_examples() -> u8
 
 /// None of these promises could be stronger: the bound by a step less, the width by a cell more, the mark by a place on.
 pub fn promises_are_sharp() -> u8
-    ensures { Sharp (λ n w k. suc k * (n / w)) (λ w. w + 1) (λ p. p + 1) }
+    ensures { Sharp (λ steps. pred steps) (λ cells. suc cells) (λ place. suc place) }
 {
     proved::promises_are_sharp()
 }
