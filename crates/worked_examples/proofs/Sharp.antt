@@ -1,4 +1,4 @@
--- No promise of the law could be stronger: each that is gets refuted by a worked run. Assumes nothing.
+-- Promises stronger than the law, each refuted by a worked run. Assumes nothing.
 use Rattle.std.proofs.Common.{◌≡◌, ℕ, suc, pred, ◌≤◌, ◌==◌, ◌≢◌, ◌&&◌, nat_le, nat_lt, Bool, true, cond, List, [], ◌∷◌, ◌++◌, length, Some, None, Option, ap, sym, refl, ◌∙◌, arith}
 use Rattle.basis.specs.declared.kind.Kind.{Kind}
 use Rattle.basis.specs.declared.kind.Kind.TheVariants.{Lookup, Insert}

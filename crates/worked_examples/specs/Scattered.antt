@@ -15,7 +15,7 @@ use Rattle.worked_examples.specs.Worked.{sectors_over_full, made_over, state_aft
 abbrev pub seats : List ℕ
 seats = 0 ∷ 1 ∷ 2 ∷ 3 ∷ 4 ∷ 5 ∷ 6 ∷ 7 ∷ 8 ∷ 9 ∷ 10 ∷ 11 ∷ 12 ∷ 13 ∷ 14 ∷ 15 ∷ []
 
--- sixteen keys and their places, in rising order of the keys
+-- sixteen keys, in rising order
 abbrev pub sixteen_keys : List ℕ
 sixteen_keys = 10 ∷ 20 ∷ 30 ∷ 40 ∷ 50 ∷ 60 ∷ 70 ∷ 80 ∷ 90 ∷ 100 ∷ 110 ∷ 120 ∷ 130 ∷ 140 ∷ 150 ∷ 160 ∷ []
 
@@ -32,7 +32,7 @@ until_all_begin = map (λ t. by_seat t join) seats ++ inserts sixteen_keys ++ ma
 abbrev pub first_steps : List (Ask Sector)
 first_steps = map (λ t. by_seat t step) seats
 
--- the run over sixteen cells, which held anything when they were given, with window 16: each seat waits, at another cell
+-- the run over sixteen cells with window w, which held the same when they were given, whatever it was: each seat waits, and at another cell
 pub record Scattered (given : Cell Sector) (w : ℕ) : Type 0 where
   pub run : Run sectors_over_full 16 w (events_of (made_over (replicate 16 given) w) (until_all_begin ++ first_steps))
       (state_after (made_over (replicate 16 given) w) (until_all_begin ++ first_steps))

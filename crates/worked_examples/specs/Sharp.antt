@@ -1,4 +1,4 @@
--- What it is that no promise of the law could be stronger, on sectors over the full scheme. Assumes nothing.
+-- Promises stronger than the law, of sectors over the full scheme, that are false. Assumes nothing.
 use Rattle.std.specs.Prelude.{ℕ, Bool, true, cond, ◌&&◌, Some, None, Option, ◌==◌, nat_le, nat_lt}
 use Rattle.key_types.specs.Sector.{sector_below}
 use Rattle.schemes.specs.Full.{full_get}
