@@ -170,11 +170,16 @@ class Index:
     def usable(self, place, listed):
         return place < len(self.keys) and self.listed[place] == listed
 
+    def width(self, seat, mark):
+        """How many cells a window may meet: from the head one to all of the window's, by the seat."""
+        return 1 + seat % self.window if mark is None else self.window
+
     def run_window(self, seat, kind, target):
         before = self.scheme.get(seat)
         if before is not None and not self.usable(before, True):
             return "refused 8"
         at = self.head if before is None else self.links[before]
+        width = self.width(seat, before)
         met = 0
         while at is not None:
             if not self.usable(at, True):
@@ -183,7 +188,7 @@ class Index:
             self.met += 1
             if self.keys[at] >= target:
                 break
-            if met == self.window:
+            if met == width:
                 self.scheme.release(seat)
                 self.scheme.reserve(seat, at)
                 return "wait"
@@ -309,10 +314,9 @@ def key_numbered(n):
     return 7 + n * 2100001
 
 
-def timed_schedule(scheme, entries, window, lookups, seats=4):
-    """A list of so many entries, and then operations on twice as many keys, by seats that take turns step by step."""
-    random = Random(0x9E3779B97F4A7C15 ^ (entries << 20) ^ (window << 8) ^ lookups)
-    maker = Maker(scheme, CELLS, window)
+def filled(scheme, cells, window, entries, seats):
+    """The seats join, and fill a list of so many entries."""
+    maker = Maker(scheme, cells, window)
     for seat in range(seats):
         maker.seat_call(JOIN, seat)
     # In falling order each insert takes one step.
@@ -320,6 +324,13 @@ def timed_schedule(scheme, entries, window, lookups, seats=4):
         maker.begin(INSERT, n % seats, key_numbered(2 * n))
         if maker.seat_call(STEP, n % seats) != "yes":
             raise AssertionError("an insert in front takes one step")
+    return maker
+
+
+def timed_schedule(scheme, entries, window, lookups, seats=4):
+    """A list of so many entries, and then operations on twice as many keys, by seats that take turns step by step."""
+    random = Random(0x9E3779B97F4A7C15 ^ (entries << 20) ^ (window << 8) ^ lookups)
+    maker = filled(scheme, CELLS, window, entries, seats)
     seat, waits, losses = 0, [False] * seats, [0] * seats
     while maker.fits(12):
         if maker.index.rows[seat] is None:
@@ -332,6 +343,24 @@ def timed_schedule(scheme, entries, window, lookups, seats=4):
         # Seats in step with each other may take each other's slots for ever, so one that lost its mark twice keeps the turn.
         if not (waits[seat] and losses[seat] >= 2):
             seat = (seat + 1) % seats
+    return bytes(maker.data)
+
+
+def together(scheme, window, entries=100, rounds=6):
+    """All sixteen seats begin at the head at once: first a lookup past the last key each, then operations near the head and all over."""
+    random = Random(0xD1B54A32D192ED03 ^ (scheme << 8) ^ window)
+    maker = filled(scheme, entries + SEATS, window, entries, SEATS)
+    for n in range(rounds):
+        for seat in range(SEATS):
+            near = random.pick([2 * SEATS, 2 * entries])
+            kind, key = (LOOKUP, 2 * entries) if n == 0 else (random.pick([LOOKUP, INSERT, REMOVE]), random.below(near))
+            maker.begin(kind, seat, key_numbered(key))
+        # Some steps by turns, some of them of a seat that has its answer; then each seat alone, so that it arrives on every scheme.
+        for turn in range(4 * SEATS):
+            maker.seat_call(STEP, turn % SEATS)
+        for seat in range(SEATS):
+            while maker.index.rows[seat] is not None:
+                maker.seat_call(STEP, seat)
     return bytes(maker.data)
 
 
@@ -415,7 +444,10 @@ def compared_schedules():
     random = Random(88172645463325252)
     for name, data in damaged(any_calls(random, 3, 2, 2, 14), random):
         yield f"damaged-{name}", data
-    for n in range(150):
+    for scheme, number in SCHEMES.items():
+        for window in (1, 17, 40, 64):
+            yield f"together-{scheme}-w{window}", together(number, window)
+    for n in range(138):
         yield f"small-{n}", any_calls(random, 1 + random.below(6), 1 + random.below(3), 3, 120)
     # Sixteen slots and more places: marks are lost.
     for n in range(60):

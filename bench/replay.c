@@ -242,8 +242,15 @@ struct spot {
     uint16_t at;
 };
 
-// One window's walk, from behind the mark or from the head. MET_LAST: the window's last cell is still below the target.
-static inline enum met walk(const struct list *l, uint16_t mark, uint32_t target, struct spot *spot)
+// How many cells a seat's next window may meet: from a mark as many as the anchor has it, from the head by the seat.
+static inline unsigned width(const struct list *l, unsigned seat, uint16_t mark)
+{
+    unsigned window = l->anchor->window;
+    return mark == END ? 1 + seat % window : window;
+}
+
+// One window's walk, from behind the mark or from the head. MET_LAST: the last cell that it may meet is still below the target.
+static inline enum met walk(const struct list *l, unsigned seat, uint16_t mark, uint32_t target, struct spot *spot)
 {
     const struct cell *cells = l->cells;
     const unsigned count = l->anchor->count;
@@ -255,7 +262,7 @@ static inline enum met walk(const struct list *l, uint16_t mark, uint32_t target
             return MET_BAD;
         at = cells[mark].link;
     }
-    for (unsigned left = l->anchor->window;;) {
+    for (unsigned left = width(l, seat, mark);;) {
         *spot = (struct spot){.lead = (uint16_t)lead, .at = (uint16_t)at};
         if (at >= count)
             return at == END ? MET_ABSENT : MET_BAD;
@@ -334,7 +341,7 @@ static inline enum answer on_absent(struct list *l, unsigned seat, struct spot s
 static enum answer run_window(struct list *l, unsigned seat)
 {
     struct spot spot;
-    switch (walk(l, scheme_get(l->scheme, seat), l->rows[seat].target, &spot)) {
+    switch (walk(l, seat, scheme_get(l->scheme, seat), l->rows[seat].target, &spot)) {
     case MET_LAST:
         scheme_release(l->scheme, seat);
         scheme_reserve(l->scheme, seat, spot.at);

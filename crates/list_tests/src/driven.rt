@@ -1,5 +1,5 @@
 // Lists of calls, run by the driver: the same schedule at each key and scheme, and what the driver refuses.
-use crate::lent::{away, cell};
+use crate::lent::{away, cell, link_to, marks_of};
 use basis::answer::Answer;
 use basis::bounded::BankBit;
 use basis::kind::Kind;
@@ -34,15 +34,16 @@ fn begins<K: Key>(seat: u8, kind: Kind, target: K) -> Ask<K> {
     ask(seat, Request::Begin { kind, target })
 }
 
-// Seat 0 inserts keys a, b and d, the last in two steps. Seat 1 looks for d and waits; seat 0 removes b, on which seat 1's mark
-// stands, and puts c into its cell; seat 1 finds d, beginning again at the head. The index is then full. No mark is
-// dropped but by the removal, so the answers are the same on relaxed schemes.
-fn schedule<K: Key>(a: K, b: K, c: K, d: K, e: K) -> [Ask<K>; 20] {
+// With windows of 2 cells seat 0, which meets one cell from the head, inserts keys a, b and d, the last two in two steps each. Seat 1, which meets
+// two, looks for d and waits at b; seat 0 removes b, on which seat 1's mark stands, and puts c into its cell; seat 1 finds d, beginning
+// again at the head. The index is then full. No mark is dropped but by the removal, so the answers are the same on relaxed schemes.
+fn schedule<K: Key>(a: K, b: K, c: K, d: K, e: K) -> [Ask<K>; 24] {
     [
         ask(0, Request::Join),
         begins(0, Kind::Insert, a),
         ask(0, Request::Step),
         begins(0, Kind::Insert, b),
+        ask(0, Request::Step),
         ask(0, Request::Step),
         begins(0, Kind::Insert, d),
         ask(0, Request::Step),
@@ -52,21 +53,25 @@ fn schedule<K: Key>(a: K, b: K, c: K, d: K, e: K) -> [Ask<K>; 20] {
         ask(1, Request::Step),
         begins(0, Kind::Remove, b),
         ask(0, Request::Step),
+        ask(0, Request::Step),
         begins(0, Kind::Insert, c),
+        ask(0, Request::Step),
         ask(0, Request::Step),
         ask(1, Request::Step),
         ask(1, Request::Step),
         begins(0, Kind::Insert, e),
         ask(0, Request::Step),
         ask(0, Request::Step),
+        ask(0, Request::Step),
     ]
 }
 
-const EXPECTED: [Answer; 20] = [
+const EXPECTED: [Answer; 24] = [
     Answer::Ok,
     Answer::Ok,
     Answer::Yes,
     Answer::Ok,
+    Answer::Wait,
     Answer::Yes,
     Answer::Ok,
     Answer::Wait,
@@ -75,12 +80,15 @@ const EXPECTED: [Answer; 20] = [
     Answer::Ok,
     Answer::Wait,
     Answer::Ok,
+    Answer::Wait,
     Answer::Yes,
     Answer::Ok,
+    Answer::Wait,
     Answer::Yes,
     Answer::Wait,
     Answer::Yes,
     Answer::Ok,
+    Answer::Wait,
     Answer::Wait,
     Answer::Full,
 ];
@@ -104,7 +112,7 @@ fn check_run<K: Key, S: Scheme>(
 ) {
     let mut anchor = no_anchor();
     let mut mask = Mask { level: 7 };
-    let mut answers = [Answer::Ok; 20];
+    let mut answers = [Answer::Ok; 24];
     let mut index = Index::over(cells, rows, &mut anchor, scheme);
     let told = run_calls(&mut index, &mut mask, 2, asks, &mut answers);
     assert_eq!(rt; told, Ok(()));
@@ -158,7 +166,8 @@ fn wear_keys_on_every_scheme(rt: HostRuntime) -> Result<(), Fail> {
     check_schemes(&rt, &mut cells, &mut rows, &asks)
 }
 
-// On the owner scheme seat 1 takes the slot of seat 0's mark, so that seat 0 begins again at the head and waits once more.
+// On the owner scheme seat 2, which meets one cell from the head as seat 0 does, takes the slot of seat 0's mark, so that seat 0 begins again
+// at the head and waits once more.
 #[test]
 fn a_relaxed_walker_begins_again(rt: HostRuntime) {
     let target = Sector { number: 40 };
@@ -170,23 +179,26 @@ fn a_relaxed_walker_begins_again(rt: HostRuntime) {
         target,
     );
     // After the three inserts both seats look for 40; the last step of seat 0 finds no mark.
-    asks[9] = begins(1, Kind::Lookup, target);
-    asks[10] = begins(0, Kind::Lookup, target);
-    asks[11] = ask(0, Request::Step);
-    asks[12] = ask(1, Request::Step);
-    asks[13] = ask(0, Request::Step);
-    let mut answers = [Answer::Ok; 14];
+    asks[9] = ask(2, Request::Join);
+    asks[10] = begins(2, Kind::Lookup, target);
+    asks[11] = begins(0, Kind::Lookup, target);
+    asks[12] = ask(0, Request::Step);
+    asks[13] = ask(2, Request::Step);
+    asks[14] = ask(0, Request::Step);
+    let mut answers = [Answer::Ok; 15];
     let mut cells = [cell(7, None, true); 3];
     let mut anchor = no_anchor();
     let mut mask = Mask { level: 0 };
     let mut scheme = Owner::new();
     let mut rows = away();
     let mut index = Index::over(&mut cells, &mut rows, &mut anchor, &mut scheme);
-    let told = run_calls(&mut index, &mut mask, 2, &asks[0..14], &mut answers);
+    let told = run_calls(&mut index, &mut mask, 2, &asks[0..15], &mut answers);
     assert_eq!(rt; told, Ok(()));
-    assert_eq!(rt; answers[11], Answer::Wait);
     assert_eq!(rt; answers[12], Answer::Wait);
     assert_eq!(rt; answers[13], Answer::Wait);
+    assert_eq!(rt; answers[14], Answer::Wait);
+    let marks = marks_of(&scheme);
+    assert_eq!(rt; (marks[0], marks[2]), (link_to(0), None));
 }
 
 // What the driver answers to so many calls at that level, with room for so many answers, on three cells.

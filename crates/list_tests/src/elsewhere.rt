@@ -12,10 +12,17 @@ use std::test::Fail;
 
 const KINDS: [Kind; 3] = [Kind::Lookup, Kind::Insert, Kind::Remove];
 
-// A window of seat 0 is refused with 8 and alters nothing.
+// The seat whose windows meet four cells from the head too.
+const WIDE: u8 = 3;
+
+// A window of that seat is refused with 8 and alters nothing.
 fn check_bad(rt: &impl Abort, lent: &mut Lent, kind: Kind, target: u32) {
-    assert_eq!(rt; lent.call(0, begin_of(kind, target)), Answer::Ok);
-    lent.check_refused(rt, 0, Request::Step, Refusal::BadLink);
+    assert_eq!(rt; lent.call(WIDE, begin_of(kind, target)), Answer::Ok);
+    lent.check_refused(rt, WIDE, Request::Step, Refusal::BadLink);
+}
+
+fn wide_seat() -> Result<Seat, Fail> {
+    Ok(Seat::try_from(u16::from(WIDE))?)
 }
 
 // The same for each kind of operation, on an index that was spoiled first.
@@ -34,9 +41,9 @@ fn check_bad_head(rt: &impl Abort, head: u16, target: u32) {
     check_each_bad(rt, target, |lent| lent.anchor.head = link_to(head));
 }
 
-// With seat 0's mark on that place.
+// With the seat's mark on that place.
 fn check_bad_mark(rt: &impl Abort, mark: u16, target: u32) -> Result<(), Fail> {
-    let seat = Seat::try_from(0)?;
+    let seat = wide_seat()?;
     let place = Place::try_from(mark)?;
     check_each_bad(rt, target, |lent| lent.scheme.reserve(seat, place));
     Ok(())
@@ -76,7 +83,7 @@ fn a_bad_link_is_refused(rt: HostRuntime) {
 #[test]
 fn a_bad_link_behind_the_mark_is_refused(rt: HostRuntime) -> Result<(), Fail> {
     let mut lent = Lent::listed();
-    lent.scheme.reserve(Seat::try_from(0)?, Place::try_from(1)?);
+    lent.scheme.reserve(wide_seat()?, Place::try_from(1)?);
     lent.cells[1] = cell(20, Some(2), true);
     check_bad(&rt, &mut lent, Kind::Lookup, 30);
     Ok(())
@@ -96,10 +103,10 @@ fn a_bad_free_link_is_refused(rt: HostRuntime) {
 fn a_bad_free_link_is_not_used_otherwise(rt: HostRuntime) {
     let mut lent = Lent::listed();
     lent.anchor.free = link_to(3);
-    lent.check_steps(&rt, 0, Kind::Insert, 20, &[Answer::No]);
-    lent.check_steps(&rt, 0, Kind::Lookup, 15, &[Answer::No]);
-    lent.check_steps(&rt, 0, Kind::Remove, 15, &[Answer::No]);
-    lent.check_steps(&rt, 0, Kind::Remove, 20, &[Answer::Yes]);
+    lent.check_steps(&rt, WIDE, Kind::Insert, 20, &[Answer::No]);
+    lent.check_steps(&rt, WIDE, Kind::Lookup, 15, &[Answer::No]);
+    lent.check_steps(&rt, WIDE, Kind::Remove, 15, &[Answer::No]);
+    lent.check_steps(&rt, WIDE, Kind::Remove, 20, &[Answer::Yes]);
     let after = lent.picture();
     assert_eq!(rt; after.anchor.free, link_to(1));
     assert_eq!(rt;
@@ -118,11 +125,11 @@ fn a_link_that_is_copied_is_not_used(rt: HostRuntime) {
     let mut lent = Lent::listed();
     lent.cells[1] = cell(20, Some(900), true);
     lent.cells[2] = cell(77, Some(901), false);
-    lent.check_steps(&rt, 0, Kind::Lookup, 15, &[Answer::No]);
-    lent.check_steps(&rt, 0, Kind::Lookup, 20, &[Answer::Yes]);
-    lent.check_steps(&rt, 0, Kind::Insert, 15, &[Answer::Yes]);
+    lent.check_steps(&rt, WIDE, Kind::Lookup, 15, &[Answer::No]);
+    lent.check_steps(&rt, WIDE, Kind::Lookup, 20, &[Answer::Yes]);
+    lent.check_steps(&rt, WIDE, Kind::Insert, 15, &[Answer::Yes]);
     assert_eq!(rt; lent.anchor.free, link_to(901));
-    lent.check_steps(&rt, 0, Kind::Remove, 20, &[Answer::Yes]);
+    lent.check_steps(&rt, WIDE, Kind::Remove, 20, &[Answer::Yes]);
     let after = lent.picture();
     assert_eq!(rt; after.anchor.free, link_to(1));
     assert_eq!(rt;
@@ -142,9 +149,9 @@ fn the_end_is_never_used(rt: HostRuntime) {
     lent.anchor.head = None;
     lent.anchor.free = None;
     let before = lent.picture();
-    lent.check_steps(&rt, 0, Kind::Lookup, 10, &[Answer::No]);
-    lent.check_steps(&rt, 0, Kind::Remove, 10, &[Answer::No]);
-    lent.check_steps(&rt, 0, Kind::Insert, 10, &[Answer::Full]);
+    lent.check_steps(&rt, WIDE, Kind::Lookup, 10, &[Answer::No]);
+    lent.check_steps(&rt, WIDE, Kind::Remove, 10, &[Answer::No]);
+    lent.check_steps(&rt, WIDE, Kind::Insert, 10, &[Answer::Full]);
     assert_eq!(rt; lent.picture(), before);
 }
 
@@ -153,7 +160,7 @@ fn the_end_is_never_used(rt: HostRuntime) {
 fn a_cell_linked_to_itself_is_removed_from_the_head(rt: HostRuntime) {
     let mut lent = Lent::listed();
     lent.cells[0] = cell(10, Some(0), true);
-    lent.check_steps(&rt, 0, Kind::Remove, 10, &[Answer::Yes]);
+    lent.check_steps(&rt, WIDE, Kind::Remove, 10, &[Answer::Yes]);
     let after = lent.picture();
     assert_eq!(rt; after.anchor.head, link_to(0));
     assert_eq!(rt; after.anchor.free, link_to(0));
@@ -165,9 +172,9 @@ fn a_cell_linked_to_itself_is_removed_from_the_head(rt: HostRuntime) {
 fn a_cell_linked_to_itself_is_removed_from_its_mark(rt: HostRuntime) -> Result<(), Fail> {
     let mut lent = Lent::listed();
     lent.cells[0] = cell(10, Some(0), true);
-    lent.scheme.reserve(Seat::try_from(0)?, Place::try_from(0)?);
+    lent.scheme.reserve(wide_seat()?, Place::try_from(0)?);
     lent.scheme.reserve(Seat::try_from(9)?, Place::try_from(0)?);
-    lent.check_steps(&rt, 0, Kind::Remove, 10, &[Answer::Yes]);
+    lent.check_steps(&rt, WIDE, Kind::Remove, 10, &[Answer::Yes]);
     let after = lent.picture();
     assert_eq!(rt; after.anchor.head, link_to(0));
     assert_eq!(rt; after.anchor.free, link_to(0));
@@ -176,13 +183,17 @@ fn a_cell_linked_to_itself_is_removed_from_its_mark(rt: HostRuntime) -> Result<(
     Ok(())
 }
 
-// A ring of links ends the window where it is used up.
+// A ring of links ends the window where it is used up: from the head after one cell for seat 0 and after four for seat 3, and from a mark after
+// four for both, twice round the ring.
 #[test]
 fn a_ring_of_links_waits(rt: HostRuntime) {
     let mut lent = Lent::listed();
     lent.cells[1] = cell(20, Some(0), true);
     lent.check_steps(&rt, 0, Kind::Lookup, 30, &[Answer::Wait]);
-    assert_eq!(rt; lent.picture().marks[0], link_to(1));
+    lent.check_steps(&rt, WIDE, Kind::Lookup, 30, &[Answer::Wait]);
+    let marks = lent.picture().marks;
+    assert_eq!(rt; (marks[0], marks[3]), (link_to(0), link_to(1)));
     assert_eq!(rt; lent.call(0, Request::Step), Answer::Wait);
-    assert_eq!(rt; lent.picture().marks[0], link_to(1));
+    assert_eq!(rt; lent.call(WIDE, Request::Step), Answer::Wait);
+    assert_eq!(rt; lent.picture().marks, marks);
 }

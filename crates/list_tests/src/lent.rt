@@ -51,6 +51,14 @@ pub(crate) fn away() -> [Row<Sector>; 16] {
     [Row { doing: Doing::Away }; 16]
 }
 
+// The mark of each seat.
+pub(crate) fn marks_of<S: Scheme>(scheme: &S) -> [Option<Place>; 16] {
+    array::from_fn(|number| {
+        let seat = Seat::try_from(number as u16).ok();
+        seat.and_then(|seat| scheme.get(seat))
+    })
+}
+
 pub(crate) fn begin_of(kind: Kind, number: u32) -> Request<Sector> {
     Request::Begin {
         kind,
@@ -59,10 +67,12 @@ pub(crate) fn begin_of(kind: Kind, number: u32) -> Request<Sector> {
 }
 
 impl Lent {
-    // 10 at place 0 and 20 at place 1 are listed, place 2 is free, and seat 0 is idle. Windows of 4 cells.
+    // 10 at place 0 and 20 at place 1 are listed, place 2 is free, and seats 0 and 3 are idle. Windows of 4 cells; from the head of 1 for seat 0,
+    // and of all 4 for seat 3.
     pub(crate) fn listed() -> Lent {
         let mut rows = away();
         rows[0] = Row { doing: Doing::Idle };
+        rows[3] = Row { doing: Doing::Idle };
         Lent {
             cells: [
                 cell(10, Some(1), true),
@@ -112,16 +122,11 @@ impl Lent {
     }
 
     pub(crate) fn picture(&self) -> Picture {
-        let scheme = &self.scheme;
-        let marks = array::from_fn(|number| {
-            let seat = Seat::try_from(number as u16).ok();
-            seat.and_then(|seat| scheme.get(seat))
-        });
         Picture {
             cells: self.cells,
             rows: self.rows,
             anchor: self.anchor,
-            marks,
+            marks: marks_of(&self.scheme),
             mask: self.mask,
         }
     }

@@ -15,6 +15,8 @@ mod other_slices;
 #[cfg(test)]
 mod refusals;
 #[cfg(test)]
+mod sixteen;
+#[cfg(test)]
 mod sizes;
 #[cfg(test)]
 mod worked;

@@ -64,7 +64,7 @@ fn calls_but_steps_are_accepted_on_other_cells(rt: HostRuntime) {
     assert_eq!(rt; lent.picture(), same.picture());
 }
 
-// The same by the call whose contract says so.
+// The same by the call whose contract says so, of seat 3, whose window from the head meets both listed cells.
 #[test]
 fn a_begin_is_accepted_on_other_cells(rt: HostRuntime) {
     let mut lent = Lent::listed();
@@ -76,10 +76,10 @@ fn a_begin_is_accepted_on_other_cells(rt: HostRuntime) {
         &mut lent.anchor,
         &mut lent.scheme,
     );
-    let begun = begin_on_other_cells(&mut index, &mut lent.mask, 0, Kind::Lookup, target);
+    let begun = begin_on_other_cells(&mut index, &mut lent.mask, 3, Kind::Lookup, target);
     assert_eq!(rt; begun, Ok(()));
     assert_eq!(rt; cells, others());
-    assert_eq!(rt; lent.call(0, Request::Step), Answer::Yes);
+    assert_eq!(rt; lent.call(3, Request::Step), Answer::Yes);
 }
 
 // A call that is refused on other cells leaves these and the index as they were.

@@ -1,4 +1,4 @@
-// A worked run on the full scheme: three cells, windows of 2 cells, seats 0 and 1.
+// A worked run on the full scheme: three cells, windows of 2 cells, seats 0 and 1. From the head seat 0 meets one cell, and seat 1 two.
 use crate::lent::{Lent, cell, link_to};
 use basis::answer::Answer;
 use basis::kind::Kind;
@@ -18,7 +18,7 @@ fn seated(rt: &impl Abort, window: u8) -> Lent {
 fn filled(rt: &impl Abort) -> Lent {
     let mut lent = seated(rt, 2);
     lent.check_steps(rt, 0, Kind::Insert, 10, &[Answer::Yes]);
-    lent.check_steps(rt, 0, Kind::Insert, 20, &[Answer::Yes]);
+    lent.check_steps(rt, 0, Kind::Insert, 20, &[Answer::Wait, Answer::Yes]);
     lent.check_steps(rt, 0, Kind::Insert, 30, &[Answer::Wait, Answer::Yes]);
     lent
 }
@@ -39,8 +39,14 @@ fn a_full_index_takes_no_more(rt: HostRuntime) {
         (before.anchor.head, before.anchor.free),
         (link_to(0), None)
     );
-    lent.check_steps(&rt, 0, Kind::Insert, 40, &[Answer::Wait, Answer::Full]);
-    lent.check_steps(&rt, 0, Kind::Insert, 20, &[Answer::No]);
+    lent.check_steps(
+        &rt,
+        0,
+        Kind::Insert,
+        40,
+        &[Answer::Wait, Answer::Wait, Answer::Full],
+    );
+    lent.check_steps(&rt, 0, Kind::Insert, 20, &[Answer::Wait, Answer::No]);
     assert_eq!(rt; lent.picture(), before);
 }
 
@@ -50,11 +56,11 @@ fn a_removal_strikes_a_mark(rt: HostRuntime) {
     let mut lent = filled(&rt);
     lent.check_steps(&rt, 1, Kind::Lookup, 30, &[Answer::Wait]);
     assert_eq!(rt; lent.picture().marks[1], link_to(1));
-    lent.check_steps(&rt, 0, Kind::Remove, 20, &[Answer::Yes]);
+    lent.check_steps(&rt, 0, Kind::Remove, 20, &[Answer::Wait, Answer::Yes]);
     assert_eq!(rt; lent.picture().marks, [None; 16]);
     assert_eq!(rt; lent.anchor.free, link_to(1));
     assert_eq!(rt; lent.call(1, Request::Step), Answer::Yes);
-    lent.check_steps(&rt, 0, Kind::Insert, 25, &[Answer::Yes]);
+    lent.check_steps(&rt, 0, Kind::Insert, 25, &[Answer::Wait, Answer::Yes]);
     assert_eq!(rt;
         lent.cells,
         [
