@@ -15,6 +15,7 @@ pub mod Window
 pub mod Calls
 pub mod Making
 pub mod Lawful
+pub mod Apart
 pub mod Proper
 pub mod Existence
 pub mod Performed

@@ -3,6 +3,7 @@ pub mod Runs
 pub mod Law
 pub mod Elsewhere
 pub mod Existence
+pub mod Apart
 pub mod Performed
 pub mod Continued
 pub mod Making

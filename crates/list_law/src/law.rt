@@ -1,9 +1,10 @@
 // The law across runs, as contracts: of the index over every kind of key and every scheme of marks.
-ghost use Rattle.std.specs.Prelude.{suc, ◌+◌, ◌*◌, Bool};
+ghost use Rattle.std.specs.Prelude.{suc, ◌+◌, ◌*◌, ◌%◌, Bool};
 ghost use Rattle.marks.specs.Meaning.{Table};
 ghost use Rattle.basis.specs.declared.refusal.Refusal.{Refusal};
 ghost use Rattle.list_law.specs.Call.{reach};
 ghost use Rattle.list_law.specs.Law.{Law, Windows, most_waits};
+ghost use Rattle.list_law.specs.Apart.{StopApart};
 ghost use Rattle.list_law.specs.Elsewhere.{OthersServe};
 ghost use Rattle.list_law.specs.Existence.{unconstrained, RunsAreThere};
 
@@ -33,6 +34,14 @@ pub fn windows_wait_at_the_last_cell<K: Key, S: Scheme>() -> u8
     ensures { Windows K.Key.below S.Scheme.table S.Scheme.strict S.Scheme.acts reach (λ p. p) }
 {
     proved::windows_wait_at_the_last_cell::<K, S>()
+}
+
+/// Where two windows that begin at the head of the same list wait at one cell, their seats leave the same remainder by w. So seats that begin
+/// together wait at different cells, as many as there are remainders.
+pub fn first_windows_stop_apart<K: Key, S: Scheme>() -> u8
+    ensures { StopApart K.Key.below S.Scheme.table S.Scheme.strict S.Scheme.acts (λ t w. t % w) }
+{
+    proved::first_windows_stop_apart::<K, S>()
 }
 
 /// A call may as well be lent other cells of the same number where it is answered ok or refused other than for a bad link, and

@@ -1,10 +1,11 @@
 // What law.rt promises, as proved: the public functions there only cite these. Each stands twice so that an edit of a public clause is refused
 // at that clause, and not because a proof no longer fits it.
-ghost use Rattle.std.specs.Prelude.{suc, ◌+◌, ◌*◌, Bool};
+ghost use Rattle.std.specs.Prelude.{suc, ◌+◌, ◌*◌, ◌%◌, Bool};
 ghost use Rattle.marks.specs.Meaning.{Table};
 ghost use Rattle.basis.specs.declared.refusal.Refusal.{Refusal};
 ghost use Rattle.list_law.specs.Call.{reach};
 ghost use Rattle.list_law.specs.Law.{Law, Windows, most_waits};
+ghost use Rattle.list_law.specs.Apart.{StopApart};
 ghost use Rattle.list_law.specs.Elsewhere.{OthersServe};
 ghost use Rattle.list_law.specs.Existence.{unconstrained, RunsAreThere};
 
@@ -25,6 +26,12 @@ pub fn every_run_over_plain_marks_is_lawful<K: Key>() -> u8
 
 pub fn windows_wait_at_the_last_cell<K: Key, S: Scheme>() -> u8
     ensures { Windows K.Key.below S.Scheme.table S.Scheme.strict S.Scheme.acts reach (λ p. p) }
+{
+    0
+}
+
+pub fn first_windows_stop_apart<K: Key, S: Scheme>() -> u8
+    ensures { StopApart K.Key.below S.Scheme.table S.Scheme.strict S.Scheme.acts (λ t w. t % w) }
 {
     0
 }

@@ -7,4 +7,4 @@ pub mod row;
 mod seats;
 pub mod sizes;
 pub mod turn;
-mod window;
+pub mod window;

@@ -18,10 +18,10 @@ use list_cells::memory::{link_in, unlink};
 use list_cells::walk::{Met, cell_at, walk_from};
 use marks::scheme::Scheme;
 
-// How many cells the next window of a seat may meet: from a mark as many as the anchor has it, from the head by the seat, so that tasks that
-// begin together do not all wait at one cell.
+/// How many cells the next window of a seat may meet: from a mark as many as the anchor has it, from the head by the seat, so that tasks that
+/// begin together do not all wait at one cell.
 #[tactic(auto, unfolding(list_law::specs::Call::reach))]
-fn width(seat: Seat, window: u8, mark: Option<Place>) -> u8
+pub fn width(seat: Seat, window: u8, mark: Option<Place>) -> u8
     requires { 1 ≤ window }
     ensures { result ≡ reach seat.number window (numbered mark) }
 {

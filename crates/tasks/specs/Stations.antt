@@ -12,7 +12,7 @@ use Rattle.ledger.specs.Tests.{test, first}
 use Rattle.ledger.specs.Ledger.{What, Call, join, leave}
 use Rattle.list_cells.specs.declared.cell.Cell.{Cell}
 use Rattle.list_cells.specs.Views.{cell_of}
-use Rattle.list_law.specs.Call.{State}
+use Rattle.list_law.specs.Call.{State, reach}
 use Rattle.list_law.specs.Making.{makes, Makes}
 use Rattle.list_window.specs.Applied.{state_of}
 use Rattle.list.specs.Calls.{call_of}
@@ -54,12 +54,18 @@ pub record SameStation {S : Type 0} (d d' : Station S) : Type 0 where
   pub cleaner : d'.cleaner ≡ d.cleaner
   pub cells : length d'.cells ≡ length d.cells
 
--- a line shows its turn, which led from d to d': the answer of its call, the marks before and after, and the cells and the head afterwards
+-- how many cells the next window of a task may meet
+abbrev pub reach_in : {S : Type 0} → (S → Table) → Station S → Task → ℕ
+reach_in table d t = reach (seat d t) d.anchor.window (table d.scheme (seat d t))
+
+-- a line shows its turn, which led from d to d': the answer of its call, the marks before and after, how many cells the task's next window
+-- might meet before, and the cells and the head afterwards
 pub record Watched {S : Type 0} (table : S → Table) (strict : Bool) (acts : Order → S → S → Type 0) (d : Station S) (l : Line) (d' : Station S) : Type 0 where
   pub seen : Seen
   pub shown : l.seen ≡ Some seen
   pub called : Called table strict acts (state d) (call d l.turn) seen.answer (state d')
   pub before : Marked table d seen.before
+  pub width : seen.width ≡ reach_in table d l.turn.task
   pub after : Marked table d' seen.after
   pub cells : seen.cells ≡ d'.cells
   pub head : seen.head ≡ d'.anchor.head

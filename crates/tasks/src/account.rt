@@ -1,16 +1,32 @@
 // The account of the turns, as text.
 use crate::turn::{Ask, Line, Seen, Task};
+use basis::answer::Answer;
 use basis::bounded::Place;
+use basis::refusal::Refusal;
 use key_types::wear::Wear;
 use list_cells::cell::Cell;
 use std::{io, iter};
 
+// Where a window began, and how many cells it might meet.
+fn print_window(rt: &HostRuntime, task: Task, seen: Seen) -> io::Result<()> {
+    match seen.before.of(task) {
+        None => print!(rt; "{task:<8} step from the head")?,
+        Some(place) => print!(rt; "{task:<8} step from place {place}")?,
+    }
+    match seen.width {
+        1 => print!(rt; ", at most 1 cell"),
+        width => print!(rt; ", at most {width} cells"),
+    }
+}
+
+// A step: its window, and what was answered and marked. Where the task had nothing to do there was no window.
 fn print_step(rt: &HostRuntime, task: Task, seen: Seen) -> io::Result<()> {
     let answer = seen.answer;
-    match seen.before.of(task) {
-        None => print!(rt; "{task:<8} step from the head: {answer}")?,
-        Some(place) => print!(rt; "{task:<8} step from place {place}: {answer}")?,
+    if answer == Answer::Refused(Refusal::NotRunning) {
+        return println!(rt; "{task:<8} step: {answer}");
     }
+    print_window(rt, task, seen)?;
+    print!(rt; ": {answer}")?;
     match seen.after.of(task) {
         None => println!(rt; ""),
         Some(place) => println!(rt; " (marked place {place})"),
@@ -64,7 +80,7 @@ fn count_listed(cells: &[Cell<Wear>]) -> usize {
     cells.iter().filter(|cell| cell.listed).count()
 }
 
-// Each turn: who asked what, where a step began, what was answered and marked; and the list after each change.
+// Each turn: who asked what, where a step began and how many cells it might meet, what was answered and marked; and the list after each change.
 pub(crate) fn print_account(rt: &HostRuntime, lines: &[Line]) -> io::Result<()> {
     let mut listed = 0;
     for line in lines {

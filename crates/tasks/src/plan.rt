@@ -30,25 +30,28 @@ impl Task {
     }
 }
 
-// The host inserts four keys and looks the last one up; while it waits at a marked cell, the cleaner removes exactly that entry. The host
-// starts again at the head and gets its answer, and an insert then uses the freed cell. The cleaner begins another remove and drops it, and
-// the host steps with nothing to do.
-pub(crate) fn schedule() -> [Line; 21] {
+// The host inserts four keys. Then host and cleaner begin together: the host looks the last key up, the cleaner removes the one before, and
+// their first windows, which are not of one width, leave marks on two cells. The host goes on and waits at exactly the entry that the cleaner
+// then removes; it starts again at the head and gets its answer, and an insert uses the freed cell. The cleaner begins another remove and
+// drops it, and the host steps with nothing to do.
+pub(crate) fn schedule() -> [Line; 23] {
     let host = Task::Host;
     let cleaner = Task::Cleaner;
     [
-        host.begins(Kind::Insert, 30, 2),
-        host.steps(),
-        host.begins(Kind::Insert, 10, 9),
+        host.begins(Kind::Insert, 40, 5),
         host.steps(),
         host.begins(Kind::Insert, 20, 4),
         host.steps(),
-        host.begins(Kind::Insert, 40, 5),
+        host.begins(Kind::Insert, 30, 2),
         host.steps(),
+        host.steps(),
+        host.begins(Kind::Insert, 10, 9),
         host.steps(),
         host.begins(Kind::Lookup, 40, 5),
+        cleaner.begins(Kind::Remove, 30, 2),
         host.steps(),
-        cleaner.begins(Kind::Remove, 20, 4),
+        cleaner.steps(),
+        host.steps(),
         cleaner.steps(),
         host.steps(),
         host.steps(),

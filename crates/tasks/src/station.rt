@@ -1,6 +1,7 @@
 // An index with two tasks at it, each with a slip in hand.
-ghost use Rattle.std.specs.Prelude.{◌≡◌, ◌<◌};
+ghost use Rattle.std.specs.Prelude.{◌≡◌, ◌<◌, ◌≤◌};
 ghost use Rattle.key_types.specs.Wear.{wear_below};
+ghost use Rattle.list_law.specs.Call.{reach};
 ghost use Rattle.list_window.specs.Applied.{state_of};
 ghost use Rattle.list.specs.Calls.{CalledOn};
 ghost use Rattle.tasks.specs.Turns.{what_asked, seat_by};
@@ -18,6 +19,7 @@ use list_cells::cell::{Anchor, Cell};
 use list_making::making::make;
 use list_window::index::Index;
 use list_window::row::{Doing, Row};
+use list_window::window::width;
 use marks::scheme::Scheme;
 
 /// What an index keeps, the mask, and the slips of the two tasks, whose seats are held. It cannot be let go, since the slips cannot.
@@ -64,19 +66,36 @@ fn slip_of<'a>(task: Task, host: &'a Slip, cleaner: &'a Slip) -> &'a Slip
     }
 }
 
+// The seat of a slip.
+fn seat_of(slip: &Slip) -> Seat
+    requires { slip.now.seat < 16 }
+    ensures { result.number ≡ slip.now.seat }
+{
+    Seat::try_from(u16::from(slip.seat())).unwrap()
+}
+
 // The place that the seat of a slip has marked.
 fn mark_of<S: Scheme>(slip: &Slip, scheme: &S) -> Option<Place>
     requires { slip.now.seat < 16 }
     ensures { numbered result ≡ S.Scheme.table scheme.now slip.now.seat }
 {
-    let seat = Seat::try_from(u16::from(slip.seat())).unwrap();
+    let seat = seat_of(slip);
     scheme.get(seat)
+}
+
+// How many cells the next window of the seat of a slip may meet.
+fn width_of<S: Scheme>(slip: &Slip, anchor: &Anchor, scheme: &S) -> u8
+    requires seat { slip.now.seat < 16 }
+    requires wide { 1 ≤ anchor.now.window }
+    ensures { result ≡ reach slip.now.seat anchor.now.window (S.Scheme.table scheme.now slip.now.seat) }
+{
+    width(seat_of(slip), anchor.window, mark_of(slip, scheme))
 }
 
 impl<S: Scheme + Drop> Station<S> {
     ghost use Rattle.std.specs.Prelude.{map, length, Some, IfOk, IfErr};
     ghost use Rattle.tasks.specs.Turns.{Called};
-    ghost use Rattle.tasks.specs.Stations.{state, call, Marked, SameStation, Watches, Plays, BothLeave, not_opened, Begun};
+    ghost use Rattle.tasks.specs.Stations.{state, call, Marked, reach_in, SameStation, Watches, Plays, BothLeave, not_opened, Begun};
 
     // Makes an index over the cells, and the two tasks join. If the second is refused, the first leaves.
     pub(crate) fn open(
@@ -143,22 +162,33 @@ impl<S: Scheme + Drop> Station<S> {
         }
     }
 
+    // How many cells the next window of a task may meet.
+    fn width_for(&self, task: Task) -> u8
+        ensures { result ≡ reach_in S.Scheme.table self.now task }
+    {
+        let slip = slip_of(task, &self.host, &self.cleaner);
+        width_of(slip, &self.anchor, &self.scheme)
+    }
+
     // A task takes its turn, and what is seen of it.
     pub(crate) fn watch(&mut self, turn: Turn) -> Seen
         ensures called { Called S.Scheme.table S.Scheme.strict S.Scheme.acts (state self.old) (call self.old turn) result.answer (state self.new) }
         ensures before { Marked S.Scheme.table self.old result.before }
+        ensures width { result.width ≡ reach_in S.Scheme.table self.old turn.task }
         ensures after { Marked S.Scheme.table self.new result.after }
         ensures cells { result.cells ≡ self.new.cells }
         ensures head { result.head ≡ self.new.anchor.head }
         ensures same { SameStation self.old self.new }
     {
         let before = self.marks();
+        let width = self.width_for(turn.task);
         let answer = self.take(turn);
         let after = self.marks();
         let cells = self.cells;
         let head = self.anchor.head;
         Seen {
             before,
+            width,
             answer,
             after,
             cells,

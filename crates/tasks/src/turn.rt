@@ -75,10 +75,12 @@ impl Marks {
     }
 }
 
-/// What is seen of a turn: the marks before, the answer, and then the marks, the cells and the first listed cell.
+/// What is seen of a turn: the marks before, how many cells the task's next window might meet then, the answer, and then the marks, the cells
+/// and the first listed cell.
 #[derive(Clone, Copy, PartialEq, Eq, Debug)]
 pub struct Seen {
     pub before: Marks,
+    pub width: u8,
     pub answer: Answer,
     pub after: Marks,
     pub cells: [Cell<Wear>; 8],

@@ -1,4 +1,4 @@
-// The worked examples as one theorem, that no promise of the law could be stronger, and that there are runs over each scheme.
+// The worked examples as one theorem, which promises stronger than the law are false, and that there are runs over each scheme.
 #![tactic(auto)]
 
 pub mod examples;

@@ -1,7 +1,7 @@
 // What examples.rt and existence.rt promise, as proved: the public functions there only cite these, so that an edit of a public clause is
 // refused at that clause.
-ghost use Rattle.std.specs.Prelude.{suc, ◌+◌, ◌*◌, ◌/◌, Bool};
-ghost use Rattle.worked_examples.specs.Worked.{Sharp};
+ghost use Rattle.std.specs.Prelude.{suc, pred, Bool};
+ghost use Rattle.worked_examples.specs.Sharp.{Sharp};
 ghost use Rattle.worked_examples.specs.Examples.{Examples};
 ghost use Rattle.list_law.specs.Existence.{Able};
 ghost use Rattle.worked_examples.specs.Formed.{full_formed, owner_formed, version_formed, pair_formed, ThereAreRuns};
@@ -20,7 +20,7 @@ pub fn worked_examples() -> u8
 }
 
 pub fn promises_are_sharp() -> u8
-    ensures { Sharp (λ n w k. suc k * (n / w)) (λ w. w + 1) (λ p. p + 1) }
+    ensures { Sharp (λ steps. pred steps) (λ cells. suc cells) (λ place. suc place) }
 {
     0
 }

@@ -28,7 +28,7 @@ loop-line-preserved g c =
       plays = subst (λ ls. Plays scheme.table scheme.strict scheme.acts d ls c.watch.new.self) more
           (plays_more scheme.table scheme.strict scheme.acts d (take at lines) c.loop-line.self c.watch.new.self _ c.watch.result so_far.same so_far.plays seen.called);
       watched = subst (λ ls. Watches scheme.table scheme.strict scheme.acts d ls c.watch.new.self) more
-          (watches_more scheme.table scheme.strict scheme.acts d (take at lines) c.loop-line.self _ c.watch.new.self so_far.watched (record { seen = c.watch.result; shown = refl; called = seen.called; before = seen.before; after = seen.after; cells = seen.cells; head = seen.head; same = seen.same }));
+          (watches_more scheme.table scheme.strict scheme.acts d (take at lines) c.loop-line.self _ c.watch.new.self so_far.watched (record { seen = c.watch.result; shown = refl; called = seen.called; before = seen.before; width = seen.width; after = seen.after; cells = seen.cells; head = seen.head; same = seen.same }));
       turns = turns_stay lines at c.line-item.result _ (omega arith) c.line-item.is (ap (λ (l : Line). l.turn) (sym c.line-item.is)) ∙ so_far.turns;
     }
 
