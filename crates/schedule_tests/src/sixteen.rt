@@ -87,12 +87,12 @@ fn check_struck(
 }
 
 // Whichever of the first sixteen cells is removed, exactly one seat begins again. The places of these cells have different slots, so it is so on
-// relaxed schemes too. Full with sixteen keys and seat 7 is samples/sixteen.schedule.
+// relaxed schemes too. Full with sixteen keys, window 20 and seat 7 is samples/sixteen.schedule.
 #[test]
 fn sixteen_seats_mark_sixteen_cells(rt: HostRuntime) -> Result<(), Fail> {
     let heap = rt.alloc();
     for scheme in 1..=3u8 {
-        for (keys, window) in [(16, 16), (17, 20), (17, 64)] {
+        for (keys, window) in [(16, 16), (16, 20), (17, 64)] {
             for struck in 0..15u8 {
                 check_struck(&rt, heap, scheme, keys, window, 15, 0, struck)?;
             }
