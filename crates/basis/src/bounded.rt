@@ -25,7 +25,9 @@ pub type BankBit = Bounded<4>;
 impl<const END: u16> TryFrom<u16> for Bounded<END> {
     type Error = Refusal;
 
-    ghost try_from_gives = { λ n r. MatchResult r (λ (b : _). b.number ≡ n) (λ e. (END ≤ n) × ((refusal e).number ≡ 1)) };
+    ghost try_from_gives = { λ n r. MatchResult r
+        (λ (b : _). b.number ≡ n)
+        (λ e. (END ≤ n) × ((refusal e).number ≡ 1)) };
 
     fn try_from(number: u16) -> Result<Bounded<END>, Refusal> {
         if number < END {

@@ -15,7 +15,11 @@ pub struct Sector {
 impl Key for Sector {
     ghost below = { sector_below };
 
-    ghost order = { record { irreflexive = Prim.search rules; transitive = Prim.search rules; same_transitive = Prim.search rules } };
+    ghost order = { record {
+      irreflexive = Prim.search rules;
+      transitive = Prim.search rules;
+      same_transitive = Prim.search rules;
+    } };
 
     fn is_below(self, other: Sector) -> bool {
         self < other

@@ -18,7 +18,9 @@ pub struct Wear {
 impl Wear {
     /// The key of a block erased `count` times, or the refusal of a count past 2,875, which no block survives.
     pub fn new(count: u16, block: u16) -> Result<Wear, Refusal>
-        ensures { MatchResult result (λ w. (count ≤ 2875) × (w ≡ wear count block)) (λ e. (2875 < count) × ((refusal e).number ≡ 1)) }
+        ensures { MatchResult result
+            (λ w. (count ≤ 2875) × (w ≡ wear count block))
+            (λ e. (2875 < count) × ((refusal e).number ≡ 1)) }
     {
         if count <= 2875 {
             Ok(Wear { count, block })
@@ -46,7 +48,11 @@ impl Wear {
 impl Key for Wear {
     ghost below = { wear_below };
 
-    ghost order = { record { irreflexive = Prim.search rules; transitive = Prim.search rules; same_transitive = Prim.search rules } };
+    ghost order = { record {
+      irreflexive = Prim.search rules;
+      transitive = Prim.search rules;
+      same_transitive = Prim.search rules;
+    } };
 
     fn is_below(self, other: Wear) -> bool {
         self < other

@@ -20,7 +20,8 @@ use marks::scheme::Scheme;
 
 // The sizes of what is lent are right: those that making takes, and as many cells as the anchor has it.
 fn sizes_right<K: Key, S: Scheme>(index: &Index<'_, K, S>) -> bool
-    ensures { result ≡ (fits_anchor (map cell_of index.now.cells.now) (anchor_of index.now.anchor.now) && (length (map row_of index.now.rows.now) == 16)) }
+    ensures { result ≡ (fits_anchor (map cell_of index.now.cells.now) (anchor_of index.now.anchor.now) &&
+        (length (map row_of index.now.rows.now) == 16)) }
 {
     let count = index.cells.len();
     (count == index.anchor.count as usize) & sizes_fit(count, index.rows.len(), index.anchor.window)
@@ -40,7 +41,11 @@ fn admit<K: Key, S: Scheme>(
     level: u8,
     request: Request<K>,
 ) -> Result<Seat, Refusal>
-    ensures { MatchResult result (λ t. (t.number ≡ seat) × ((level < 7) × (1 ≤ index.now.anchor.now.window) × (first (early_refusals (lent_state index.now) (call_on index.now (what_of request) seat level)) ≡ None))) (λ e. first (early_refusals (lent_state index.now) (call_on index.now (what_of request) seat level)) ≡ Some e) }
+    ensures { MatchResult result
+        (λ t. (t.number ≡ seat) × ((level < 7) × (1 ≤ index.now.anchor.now.window) ×
+        (first (early_refusals (lent_state index.now) (call_on index.now (what_of request) seat level)) ≡ None)))
+        (λ e.
+        first (early_refusals (lent_state index.now) (call_on index.now (what_of request) seat level)) ≡ Some e) }
 {
     let seat = Seat::try_from(u16::from(seat))?;
     if !sizes_right(index) {
@@ -60,7 +65,8 @@ pub fn make_call<K: Key, S: Scheme>(
     seat: u8,
     request: Request<K>,
 ) -> Answer
-    ensures called { CalledOn K.Key.below S.Scheme.table S.Scheme.strict S.Scheme.acts index.old (what_of request) seat mask.old.level result index.new }
+    ensures called { CalledOn K.Key.below S.Scheme.table S.Scheme.strict S.Scheme.acts index.old (what_of request)
+        seat mask.old.level result index.new }
     ensures level { mask.new.level ≡ mask.old.level }
 {
     let level = mask.level;

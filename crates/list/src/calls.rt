@@ -22,7 +22,8 @@ fn settle<K: Key, S: Scheme>(
     request: Request<K>,
 ) -> Result<(), Refusal>
     requires { is_step (what_of request) ≡ false }
-    ensures called { CalledOn K.Key.below S.Scheme.table S.Scheme.strict S.Scheme.acts index.old (what_of request) seat mask.old.level (settled result) index.new }
+    ensures called { CalledOn K.Key.below S.Scheme.table S.Scheme.strict S.Scheme.acts index.old (what_of request)
+        seat mask.old.level (settled result) index.new }
     ensures level { mask.new.level ≡ mask.old.level }
 {
     match make_call(index, mask, seat, request) {
@@ -39,7 +40,8 @@ pub fn join<K: Key, S: Scheme>(
     mask: &mut Mask,
     seat: u8,
 ) -> Result<(), Refusal>
-    ensures called { CalledOn K.Key.below S.Scheme.table S.Scheme.strict S.Scheme.acts index.old (what_of Request.Join) seat mask.old.level (settled result) index.new }
+    ensures called { CalledOn K.Key.below S.Scheme.table S.Scheme.strict S.Scheme.acts index.old
+        (what_of Request.Join) seat mask.old.level (settled result) index.new }
     ensures level { mask.new.level ≡ mask.old.level }
 {
     settle(index, mask, seat, Request::Join)
@@ -52,7 +54,8 @@ pub fn leave<K: Key, S: Scheme>(
     mask: &mut Mask,
     seat: u8,
 ) -> Result<(), Refusal>
-    ensures called { CalledOn K.Key.below S.Scheme.table S.Scheme.strict S.Scheme.acts index.old (what_of Request.Leave) seat mask.old.level (settled result) index.new }
+    ensures called { CalledOn K.Key.below S.Scheme.table S.Scheme.strict S.Scheme.acts index.old
+        (what_of Request.Leave) seat mask.old.level (settled result) index.new }
     ensures level { mask.new.level ≡ mask.old.level }
 {
     settle(index, mask, seat, Request::Leave)
@@ -67,7 +70,8 @@ pub fn begin<K: Key, S: Scheme>(
     kind: Kind,
     target: K,
 ) -> Result<(), Refusal>
-    ensures called { CalledOn K.Key.below S.Scheme.table S.Scheme.strict S.Scheme.acts index.old (what_of (Request.Begin kind target)) seat mask.old.level (settled result) index.new }
+    ensures called { CalledOn K.Key.below S.Scheme.table S.Scheme.strict S.Scheme.acts index.old
+        (what_of (Request.Begin kind target)) seat mask.old.level (settled result) index.new }
     ensures level { mask.new.level ≡ mask.old.level }
 {
     settle(index, mask, seat, Request::Begin { kind, target })
@@ -77,7 +81,8 @@ pub fn begin<K: Key, S: Scheme>(
 /// Refused, with nothing altered: 1 to 3 as `join`, 5 where the row is away, 7 where it is idle, and 8 where the window would use a
 /// mark or a link to no cell, or to a cell of the wrong flag.
 pub fn step<K: Key, S: Scheme>(index: &mut Index<'_, K, S>, mask: &mut Mask, seat: u8) -> Answer
-    ensures called { CalledOn K.Key.below S.Scheme.table S.Scheme.strict S.Scheme.acts index.old (what_of Request.Step) seat mask.old.level result index.new }
+    ensures called { CalledOn K.Key.below S.Scheme.table S.Scheme.strict S.Scheme.acts index.old
+        (what_of Request.Step) seat mask.old.level result index.new }
     ensures level { mask.new.level ≡ mask.old.level }
 {
     make_call(index, mask, seat, Request::Step)
@@ -90,7 +95,8 @@ pub fn abandon<K: Key, S: Scheme>(
     mask: &mut Mask,
     seat: u8,
 ) -> Result<(), Refusal>
-    ensures called { CalledOn K.Key.below S.Scheme.table S.Scheme.strict S.Scheme.acts index.old (what_of Request.Abandon) seat mask.old.level (settled result) index.new }
+    ensures called { CalledOn K.Key.below S.Scheme.table S.Scheme.strict S.Scheme.acts index.old
+        (what_of Request.Abandon) seat mask.old.level (settled result) index.new }
     ensures level { mask.new.level ≡ mask.old.level }
 {
     settle(index, mask, seat, Request::Abandon)

@@ -41,7 +41,8 @@ impl Slip {
         mask: &mut Mask,
         seat: u8,
     ) -> Result<Slip, Refusal>
-        ensures called { CalledOn K.Key.below S.Scheme.table S.Scheme.strict S.Scheme.acts index.old (what_of Request.Join) seat mask.old.level (settled result) index.new }
+        ensures called { CalledOn K.Key.below S.Scheme.table S.Scheme.strict S.Scheme.acts index.old
+            (what_of Request.Join) seat mask.old.level (settled result) index.new }
         ensures level { mask.new.level ≡ mask.old.level }
         ensures case { join_case result ≡ join_due seat (settled result) }
         ensures seat { IfOk result (λ slip. slip.seat ≡ seat) }
@@ -58,7 +59,8 @@ impl Slip {
         kind: Kind,
         target: K,
     ) -> Result<(), Refusal>
-        ensures called { CalledOn K.Key.below S.Scheme.table S.Scheme.strict S.Scheme.acts index.old (what_of (Request.Begin kind target)) self.now.seat mask.old.level (settled result) index.new }
+        ensures called { CalledOn K.Key.below S.Scheme.table S.Scheme.strict S.Scheme.acts index.old
+            (what_of (Request.Begin kind target)) self.now.seat mask.old.level (settled result) index.new }
         ensures level { mask.new.level ≡ mask.old.level }
     {
         calls::begin(index, mask, self.seat, kind, target)
@@ -66,7 +68,8 @@ impl Slip {
 
     /// The seat of the slip runs one window. Refused as `calls::step`.
     pub fn step<K: Key, S: Scheme>(&self, index: &mut Index<'_, K, S>, mask: &mut Mask) -> Answer
-        ensures called { CalledOn K.Key.below S.Scheme.table S.Scheme.strict S.Scheme.acts index.old (what_of Request.Step) self.now.seat mask.old.level result index.new }
+        ensures called { CalledOn K.Key.below S.Scheme.table S.Scheme.strict S.Scheme.acts index.old
+            (what_of Request.Step) self.now.seat mask.old.level result index.new }
         ensures level { mask.new.level ≡ mask.old.level }
     {
         calls::step(index, mask, self.seat)
@@ -78,7 +81,8 @@ impl Slip {
         index: &mut Index<'_, K, S>,
         mask: &mut Mask,
     ) -> Result<(), Refusal>
-        ensures called { CalledOn K.Key.below S.Scheme.table S.Scheme.strict S.Scheme.acts index.old (what_of Request.Abandon) self.now.seat mask.old.level (settled result) index.new }
+        ensures called { CalledOn K.Key.below S.Scheme.table S.Scheme.strict S.Scheme.acts index.old
+            (what_of Request.Abandon) self.now.seat mask.old.level (settled result) index.new }
         ensures level { mask.new.level ≡ mask.old.level }
     {
         calls::abandon(index, mask, self.seat)
@@ -90,7 +94,8 @@ impl Slip {
         index: &mut Index<'_, K, S>,
         mask: &mut Mask,
     ) -> Result<(), RefusedLeave>
-        ensures called { CalledOn K.Key.below S.Scheme.table S.Scheme.strict S.Scheme.acts index.old (what_of Request.Leave) self.seat mask.old.level (left result) index.new }
+        ensures called { CalledOn K.Key.below S.Scheme.table S.Scheme.strict S.Scheme.acts index.old
+            (what_of Request.Leave) self.seat mask.old.level (left result) index.new }
         ensures level { mask.new.level ≡ mask.old.level }
         ensures case { leave_case result ≡ leave_due self.seat (left result) }
         ensures slip { IfErr result (λ kept. kept.slip ≡ self) }

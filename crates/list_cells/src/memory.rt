@@ -53,7 +53,8 @@ pub fn set_lead<K: Key>(
     lead: Option<Place>,
     link: Option<Place>,
 )
-    ensures memory { lent_memory cells.new anchor.new ≡ leading_set (numbered lead) (numbered link) (lent_memory cells.old anchor.old) }
+    ensures memory { lent_memory cells.new anchor.new ≡ leading_set (numbered lead) (numbered link)
+        (lent_memory cells.old anchor.old) }
     ensures sizes { SameSizes anchor.old anchor.new }
 {
     match lead {
@@ -80,7 +81,8 @@ pub fn unlink<K: Key>(
     place: Place,
     link: Option<Place>,
 )
-    ensures memory { lent_memory cells.new anchor.new ≡ removed (numbered lead) place.number (numbered link) (lent_memory cells.old anchor.old) }
+    ensures memory { lent_memory cells.new anchor.new ≡ removed (numbered lead) place.number (numbered link)
+        (lent_memory cells.old anchor.old) }
     ensures sizes { SameSizes anchor.old anchor.new }
 {
     set_lead(cells, anchor, lead, link);
@@ -97,7 +99,8 @@ pub fn link_in<K: Key>(
     place: Place,
     rest: Option<Place>,
 )
-    ensures memory { lent_memory cells.new anchor.new ≡ inserted (numbered lead) (numbered link) key place.number (numbered rest) (lent_memory cells.old anchor.old) }
+    ensures memory { lent_memory cells.new anchor.new ≡ inserted (numbered lead) (numbered link) key place.number
+        (numbered rest) (lent_memory cells.old anchor.old) }
     ensures sizes { SameSizes anchor.old anchor.new }
 {
     anchor.free = rest;

@@ -27,7 +27,8 @@ pub struct Ask<K> {
 
 // One call of the list, at its own mask level.
 fn run_ask<K: Key, S: Scheme>(index: &mut Index<'_, K, S>, mask: &mut Mask, ask: Ask<K>) -> Answer
-    ensures called { CalledOn K.Key.below S.Scheme.table S.Scheme.strict S.Scheme.acts index.old (what_of ask.request) ask.seat ask.level result index.new }
+    ensures called { CalledOn K.Key.below S.Scheme.table S.Scheme.strict S.Scheme.acts index.old (what_of ask.request)
+        ask.seat ask.level result index.new }
 {
     mask.level = ask.level;
     make_call(index, mask, ask.seat, ask.request)
@@ -40,8 +41,12 @@ fn drive<K: Key, S: Scheme>(
     asks: &[Ask<K>],
     answers: &mut [Answer],
 )
-    requires { (length asks.now ≡ length answers.old) × ((length index.old.rows.now ≡ 16) × (Driven K.Key.below S.Scheme.table S.Scheme.strict S.Scheme.acts (length index.old.cells.now) index.old.anchor.now.window (lent_state index.old) [] [] (lent_state index.old))) }
-    ensures driven { Driven K.Key.below S.Scheme.table S.Scheme.strict S.Scheme.acts (length index.old.cells.now) index.old.anchor.now.window (lent_state index.old) (map ask_of asks.now) answers.new (lent_state index.new) }
+    requires { (length asks.now ≡ length answers.old) ×
+        ((length index.old.rows.now ≡ 16) ×
+        (Driven K.Key.below S.Scheme.table S.Scheme.strict S.Scheme.acts (length index.old.cells.now)
+        index.old.anchor.now.window (lent_state index.old) [] [] (lent_state index.old))) }
+    ensures driven { Driven K.Key.below S.Scheme.table S.Scheme.strict S.Scheme.acts (length index.old.cells.now)
+        index.old.anchor.now.window (lent_state index.old) (map ask_of asks.now) answers.new (lent_state index.new) }
     ensures same { SameLent index.old index.new }
 {
     // the answers by index: in a loop over `asks.iter().zip(answers.iter_mut())` no fact says which answers are written so far
@@ -59,8 +64,11 @@ pub fn run_calls<K: Key, S: Scheme>(
     asks: &[Ask<K>],
     answers: &mut [Answer],
 ) -> Result<(), Refusal>
-    ensures ran { Ran K.Key.below S.Scheme.table S.Scheme.strict S.Scheme.acts (length index.old.cells.now) (length index.old.rows.now) window (map ask_of asks.now) answers.old (lent_state index.old) (settled result) answers.new (lent_state index.new) }
-    ensures case { answer (settled result) ≡ driving_case (length index.old.cells.now) (length index.old.rows.now) window (length asks.now) (length answers.old) }
+    ensures ran { Ran K.Key.below S.Scheme.table S.Scheme.strict S.Scheme.acts (length index.old.cells.now)
+        (length index.old.rows.now) window (map ask_of asks.now) answers.old (lent_state index.old) (settled result)
+        answers.new (lent_state index.new) }
+    ensures case { answer (settled result) ≡ driving_case (length index.old.cells.now) (length index.old.rows.now)
+        window (length asks.now) (length answers.old) }
     ensures level { mask.new.level ≡ mask.old.level }
     ensures same { SameLent index.old index.new }
 {

@@ -16,14 +16,16 @@ use marks::scheme::Scheme;
 /// call, and on a strict scheme an operation of seat t has answered after (k + 1) × (1 + ⌊(n - f) / w⌋) + 1 accepted steps where
 /// its width from the head, f, is at most n, and after one where it is more.
 pub fn every_run_is_lawful<K: Key, S: Scheme>() -> u8
-    ensures { Law K.Key.below S.Scheme.table S.Scheme.strict S.Scheme.acts (λ n w t kind k. suc k * most_waits n w t + 1) }
+    ensures { Law K.Key.below S.Scheme.table S.Scheme.strict
+        S.Scheme.acts (λ n w t kind k. suc k * most_waits n w t + 1) }
 {
     proved::every_run_is_lawful::<K, S>()
 }
 
 /// The same over plain marks, of which nothing is known but what the orders mean: whatever a scheme may do, this may do.
 pub fn every_run_over_plain_marks_is_lawful<K: Key>() -> u8
-    ensures { (keeps : Bool) → Law K.Key.below (λ (m : Table). m) keeps unconstrained (λ n w t kind k. suc k * most_waits n w t + 1) }
+    ensures { (keeps : Bool) →
+        Law K.Key.below (λ (m : Table). m) keeps unconstrained (λ n w t kind k. suc k * most_waits n w t + 1) }
 {
     proved::every_run_over_plain_marks_is_lawful::<K>()
 }

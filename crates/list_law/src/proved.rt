@@ -13,13 +13,15 @@ use keys::key::Key;
 use marks::scheme::Scheme;
 
 pub fn every_run_is_lawful<K: Key, S: Scheme>() -> u8
-    ensures { Law K.Key.below S.Scheme.table S.Scheme.strict S.Scheme.acts (λ n w t kind k. suc k * most_waits n w t + 1) }
+    ensures { Law K.Key.below S.Scheme.table S.Scheme.strict
+        S.Scheme.acts (λ n w t kind k. suc k * most_waits n w t + 1) }
 {
     0
 }
 
 pub fn every_run_over_plain_marks_is_lawful<K: Key>() -> u8
-    ensures { (keeps : Bool) → Law K.Key.below (λ (m : Table). m) keeps unconstrained (λ n w t kind k. suc k * most_waits n w t + 1) }
+    ensures { (keeps : Bool) →
+        Law K.Key.below (λ (m : Table). m) keeps unconstrained (λ n w t kind k. suc k * most_waits n w t + 1) }
 {
     0
 }

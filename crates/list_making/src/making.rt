@@ -94,8 +94,10 @@ fn fresh_anchor(count: usize, window: u8) -> Anchor
 /// Makes an index over what it is lent: 1 to 1,008 cells, all of which become free, sixteen rows, which become away, a window of 1 to
 /// 64, and every mark released. Other sizes are refused with 2, and nothing is altered. It runs before any task does, so it raises no mask.
 pub fn make<K: Key, S: Scheme>(index: &mut Index<'_, K, S>, window: u8) -> Result<(), Refusal>
-    ensures made { Makes K.Key.below S.Scheme.table S.Scheme.strict S.Scheme.acts (lent_state index.old) window (settled result) (lent_state index.new) }
-    ensures case { answer (settled result) ≡ making_case (length index.old.cells.now) (length index.old.rows.now) window }
+    ensures made { Makes K.Key.below S.Scheme.table S.Scheme.strict S.Scheme.acts (lent_state index.old) window
+        (settled result) (lent_state index.new) }
+    ensures case { answer (settled result) ≡ making_case (length index.old.cells.now)
+        (length index.old.rows.now) window }
     ensures same { SameLent index.old index.new }
 {
     let count = index.cells.len();

@@ -23,8 +23,11 @@ pub fn begin_on_other_cells<K: Key, S: Scheme>(
     kind: Kind,
     target: K,
 ) -> Result<(), Refusal>
-    ensures runs { IfOk result (λ _. GoesOnBeside K.Key.below S.Scheme.table S.Scheme.strict S.Scheme.acts (lent_state index.old) (call_on index.old (ledger.begin kind target) seat mask.old.level) Answer.Ok (lent_state index.new)) }
-    ensures called { CalledOn K.Key.below S.Scheme.table S.Scheme.strict S.Scheme.acts index.old (ledger.begin kind target) seat mask.old.level (settled result) index.new }
+    ensures runs { IfOk result (λ _. GoesOnBeside K.Key.below S.Scheme.table S.Scheme.strict S.Scheme.acts
+        (lent_state index.old) (call_on index.old (ledger.begin kind target) seat mask.old.level) Answer.Ok
+        (lent_state index.new)) }
+    ensures called { CalledOn K.Key.below S.Scheme.table S.Scheme.strict S.Scheme.acts index.old
+        (ledger.begin kind target) seat mask.old.level (settled result) index.new }
     ensures level { mask.new.level ≡ mask.old.level }
 {
     begin(index, mask, seat, kind, target)

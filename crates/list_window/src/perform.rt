@@ -18,7 +18,10 @@ use marks::scheme::Scheme;
 impl<K: Key, S: Scheme> Index<'_, K, S> {
     // The row becomes another one, with or without a release of the seat's mark.
     fn change_row(&mut self, seat: Seat, doing: Doing<K>, releases: bool) -> Answer
-        ensures { AppliedTo S.Scheme.table S.Scheme.strict S.Scheme.acts seat.number (turn_effect K.Key.below (window_memory self.old) seat.number self.old.anchor.now.window (S.Scheme.table self.old.scheme.now seat.number) (turn_of seat.number (Turn.Becomes doing releases))) self.old result self.new }
+        ensures { AppliedTo S.Scheme.table S.Scheme.strict S.Scheme.acts seat.number
+            (turn_effect K.Key.below (window_memory self.old) seat.number self.old.anchor.now.window
+            (S.Scheme.table self.old.scheme.now seat.number) (turn_of seat.number (Turn.Becomes doing releases)))
+            self.old result self.new }
     {
         put_row(self.rows, seat, doing);
         if releases {
@@ -39,7 +42,11 @@ impl<K: Key, S: Scheme> Index<'_, K, S> {
     pub fn perform(&mut self, guard: &Guard, seat: Seat, request: Request<K>) -> Answer
         requires raised { guard.now.mask.now.level ≡ 7 }
         requires wide { 1 ≤ self.old.anchor.now.window }
-        ensures { AppliedTo S.Scheme.table S.Scheme.strict S.Scheme.acts seat.number (turn_effect K.Key.below (window_memory self.old) seat.number self.old.anchor.now.window (S.Scheme.table self.old.scheme.now seat.number) (turn seat.number (row_at (map row_of self.old.rows.now) seat.number) (what_of request))) self.old result self.new }
+        ensures { AppliedTo S.Scheme.table S.Scheme.strict S.Scheme.acts seat.number
+            (turn_effect K.Key.below (window_memory self.old) seat.number self.old.anchor.now.window
+            (S.Scheme.table self.old.scheme.now seat.number)
+            (turn seat.number (row_at (map row_of self.old.rows.now) seat.number) (what_of request)))
+            self.old result self.new }
     {
         match turn_at(seat, self.doing(seat), request) {
             Err(refusal) => Answer::Refused(refusal),

@@ -41,7 +41,8 @@ fn walk_behind<K: Key>(
     mark: Option<Place>,
 ) -> Option<Met>
     requires { 1 ≤ anchor.now.window }
-    ensures { met_of result ≡ walked K.Key.below (map cell_of cells.now) (numbered anchor.now.head) target (pred (reach seat.number anchor.now.window (numbered mark))) (numbered mark) }
+    ensures { met_of result ≡ walked K.Key.below (map cell_of cells.now) (numbered anchor.now.head) target
+        (pred (reach seat.number anchor.now.window (numbered mark))) (numbered mark) }
 {
     let room = width(seat, anchor.window, mark).saturating_sub(1);
     walk_from(cells, anchor.head, target, room, mark)
@@ -51,7 +52,8 @@ impl<K: Key, S: Scheme> Index<'_, K, S> {
     // The operation has its answer: the row becomes idle, and the mark is released.
     #[inline(always)]
     fn end_operation(&mut self, seat: Seat, answer: Answer) -> Answer
-        ensures { AppliedTo S.Scheme.table S.Scheme.strict S.Scheme.acts seat.number (ended seat.number answer (window_memory self.old)) self.old result self.new }
+        ensures { AppliedTo S.Scheme.table S.Scheme.strict S.Scheme.acts seat.number
+            (ended seat.number answer (window_memory self.old)) self.old result self.new }
     {
         self.scheme.release(seat);
         put_row(self.rows, seat, Doing::Idle);
@@ -61,7 +63,8 @@ impl<K: Key, S: Scheme> Index<'_, K, S> {
     // The window is used up at a place, which the seat marks.
     #[inline(always)]
     fn wait_at(&mut self, seat: Seat, place: Place) -> Answer
-        ensures { AppliedTo S.Scheme.table S.Scheme.strict S.Scheme.acts seat.number (waiting seat.number place.number (window_memory self.old)) self.old result self.new }
+        ensures { AppliedTo S.Scheme.table S.Scheme.strict S.Scheme.acts seat.number
+            (waiting seat.number place.number (window_memory self.old)) self.old result self.new }
     {
         self.scheme.release(seat);
         self.scheme.reserve(seat, place);
@@ -76,7 +79,9 @@ impl<K: Key, S: Scheme> Index<'_, K, S> {
         place: Place,
         link: Option<Place>,
     ) -> Answer
-        ensures { AppliedTo S.Scheme.table S.Scheme.strict S.Scheme.acts seat.number (unlinked seat.number (numbered lead) place.number (numbered link) (window_memory self.old)) self.old result self.new }
+        ensures { AppliedTo S.Scheme.table S.Scheme.strict S.Scheme.acts seat.number
+            (unlinked seat.number (numbered lead) place.number (numbered link) (window_memory self.old))
+            self.old result self.new }
     {
         unlink(self.cells, self.anchor, lead, place, link);
         self.scheme.revoke(place);
@@ -98,7 +103,9 @@ impl<K: Key, S: Scheme> Index<'_, K, S> {
         lead: Option<Place>,
         link: Option<Place>,
     ) -> Answer
-        ensures { AppliedTo S.Scheme.table S.Scheme.strict S.Scheme.acts seat.number (taken_from target seat.number (numbered lead) (numbered link) (window_memory self.old) (numbered self.old.anchor.now.free)) self.old result self.new }
+        ensures { AppliedTo S.Scheme.table S.Scheme.strict S.Scheme.acts seat.number
+            (taken_from target seat.number (numbered lead) (numbered link) (window_memory self.old)
+            (numbered self.old.anchor.now.free)) self.old result self.new }
     {
         let Some(place) = self.anchor.free else {
             return self.end_operation(seat, Answer::Full);
@@ -123,7 +130,9 @@ impl<K: Key, S: Scheme> Index<'_, K, S> {
         place: Place,
         link: Option<Place>,
     ) -> Answer
-        ensures { AppliedTo S.Scheme.table S.Scheme.strict S.Scheme.acts seat.number (on_present kind seat.number (numbered lead) place.number (numbered link) (window_memory self.old)) self.old result self.new }
+        ensures { AppliedTo S.Scheme.table S.Scheme.strict S.Scheme.acts seat.number
+            (on_present kind seat.number (numbered lead) place.number (numbered link) (window_memory self.old))
+            self.old result self.new }
     {
         match kind {
             Kind::Lookup => self.end_operation(seat, Answer::Yes),
@@ -141,7 +150,9 @@ impl<K: Key, S: Scheme> Index<'_, K, S> {
         lead: Option<Place>,
         link: Option<Place>,
     ) -> Answer
-        ensures { AppliedTo S.Scheme.table S.Scheme.strict S.Scheme.acts seat.number (on_absent kind target seat.number (numbered lead) (numbered link) (window_memory self.old)) self.old result self.new }
+        ensures { AppliedTo S.Scheme.table S.Scheme.strict S.Scheme.acts seat.number
+            (on_absent kind target seat.number (numbered lead) (numbered link) (window_memory self.old))
+            self.old result self.new }
     {
         match kind {
             Kind::Lookup => self.end_operation(seat, Answer::No),
@@ -153,7 +164,8 @@ impl<K: Key, S: Scheme> Index<'_, K, S> {
     // What a window does, by where its walk ended.
     #[inline(always)]
     fn decide(&mut self, seat: Seat, kind: Kind, target: K, met: Option<Met>) -> Answer
-        ensures { AppliedTo S.Scheme.table S.Scheme.strict S.Scheme.acts seat.number (decided kind target seat.number (window_memory self.old) (met_of met)) self.old result self.new }
+        ensures { AppliedTo S.Scheme.table S.Scheme.strict S.Scheme.acts seat.number
+            (decided kind target seat.number (window_memory self.old) (met_of met)) self.old result self.new }
     {
         match met {
             None => Answer::Refused(Refusal::BadLink),
@@ -169,7 +181,10 @@ impl<K: Key, S: Scheme> Index<'_, K, S> {
     #[inline(always)]
     fn walk(&self, seat: Seat, target: K) -> Option<Met>
         requires { 1 ≤ self.now.anchor.now.window }
-        ensures { met_of result ≡ walked K.Key.below (map cell_of self.now.cells.now) (numbered self.now.anchor.now.head) target (pred (reach seat.number self.now.anchor.now.window (S.Scheme.table self.now.scheme.now seat.number))) (S.Scheme.table self.now.scheme.now seat.number) }
+        ensures { met_of result ≡ walked K.Key.below (map cell_of self.now.cells.now)
+            (numbered self.now.anchor.now.head) target
+            (pred (reach seat.number self.now.anchor.now.window (S.Scheme.table self.now.scheme.now seat.number)))
+            (S.Scheme.table self.now.scheme.now seat.number) }
     {
         walk_behind(self.cells, self.anchor, seat, target, self.scheme.get(seat))
     }
@@ -178,7 +193,9 @@ impl<K: Key, S: Scheme> Index<'_, K, S> {
     #[inline(always)]
     pub(crate) fn run_window(&mut self, seat: Seat, kind: Kind, target: K) -> Answer
         requires { 1 ≤ self.old.anchor.now.window }
-        ensures { AppliedTo S.Scheme.table S.Scheme.strict S.Scheme.acts seat.number (window K.Key.below (window_memory self.old) seat.number self.old.anchor.now.window (S.Scheme.table self.old.scheme.now seat.number) kind target) self.old result self.new }
+        ensures { AppliedTo S.Scheme.table S.Scheme.strict S.Scheme.acts seat.number
+            (window K.Key.below (window_memory self.old) seat.number self.old.anchor.now.window
+            (S.Scheme.table self.old.scheme.now seat.number) kind target) self.old result self.new }
     {
         let met = self.walk(seat, target);
         self.decide(seat, kind, target, met)

@@ -79,7 +79,8 @@ impl fmt::Display for SchemeName {
 impl TryFrom<u8> for SchemeName {
     type Error = Refusal;
 
-    ghost try_from_gives = { λ number r. (r ≡ ok_or (scheme_named number) BadRecord) × IfOk r (λ s. (scheme s).number ≡ number) };
+    ghost try_from_gives = { λ number r. (r ≡ ok_or (scheme_named number) BadRecord) ×
+        IfOk r (λ s. (scheme s).number ≡ number) };
 
     // called and not inlined: one record in a schedule has a scheme
     #[inline(never)]
@@ -187,7 +188,8 @@ impl fmt::Display for Record {
 impl TryFrom<&[u8]> for Record {
     type Error = Refusal;
 
-    ghost try_from_gives = { λ bytes r. (r ≡ ok_or (decoded bytes.now) BadRecord) × IfOk r (λ rec. fields rec ≡ bytes.now) };
+    ghost try_from_gives = { λ bytes r. (r ≡ ok_or (decoded bytes.now) BadRecord) ×
+        IfOk r (λ rec. fields rec ≡ bytes.now) };
 
     #[inline(always)]
     fn try_from(bytes: &[u8]) -> Result<Record, Refusal> {

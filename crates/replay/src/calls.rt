@@ -65,7 +65,9 @@ fn push_ask(asks: &mut Vec<Ask<Sector>>, content: Record) -> Result<(), AllocErr
 /// Everything that the reader hands out of these bytes, or the refusal to open them.
 #[inline(never)]
 pub fn read_calls(heap: Global, bytes: &[u8]) -> Result<Result<Calls, Refusal>, AllocError>
-    ensures { IfOk result (λ r. MatchResult r (λ c. (open_refusal bytes.now ≡ None) × Says bytes.now c) (λ e. open_refusal bytes.now ≡ Some (refusal e).number)) }
+    ensures { IfOk result (λ r. MatchResult r
+        (λ c. (open_refusal bytes.now ≡ None) × Says bytes.now c)
+        (λ e. open_refusal bytes.now ≡ Some (refusal e).number)) }
 {
     let mut reader = match Reader::open(bytes) {
         Ok(reader) => reader,

@@ -42,7 +42,11 @@ fn run_over<S: Scheme>(
     answers: &mut [Answer],
 ) -> Result<(), Refusal>
     requires { length asks.now ≡ length answers.old }
-    ensures { MatchResult result (λ _. (makes (length cells.old) 16 window ≡ true) × MadeAndRun S.Scheme.table S.Scheme.strict S.Scheme.acts (map cell_of cells.old) window scheme.old (map ask_of asks.now) answers.new) (λ e. (makes (length cells.old) 16 window ≡ false) × (e ≡ WrongSizes)) }
+    ensures { MatchResult result
+        (λ _. (makes (length cells.old) 16 window ≡ true) ×
+        MadeAndRun S.Scheme.table S.Scheme.strict S.Scheme.acts (map cell_of cells.old) window scheme.old
+        (map ask_of asks.now) answers.new)
+        (λ e. (makes (length cells.old) 16 window ≡ false) × (e ≡ WrongSizes)) }
 {
     let mut rows = [Row { doing: Doing::Away }; 16];
     let mut anchor = Anchor {
@@ -67,7 +71,11 @@ fn answers_over<S: Scheme>(
     window: u8,
     asks: &[Ask<Sector>],
 ) -> Result<Result<Vec<Answer>, Refusal>, AllocError>
-    ensures { IfOk result (λ r. MatchResult r (λ v. (makes count 16 window ≡ true) × MadeAndRun S.Scheme.table S.Scheme.strict S.Scheme.acts (blank count) window scheme.old (map ask_of asks.now) v.items) (λ e. (makes count 16 window ≡ false) × (e ≡ WrongSizes))) }
+    ensures { IfOk result (λ r. MatchResult r
+        (λ v. (makes count 16 window ≡ true) ×
+        MadeAndRun S.Scheme.table S.Scheme.strict S.Scheme.acts (blank count) window scheme.old
+        (map ask_of asks.now) v.items)
+        (λ e. (makes count 16 window ≡ false) × (e ≡ WrongSizes))) }
 {
     let mut cells = blank_cells(heap, count)?;
     let mut answers = vec![in heap; Answer::Ok; asks.len()]?;
@@ -92,7 +100,9 @@ pub fn answers_by(
     window: u8,
     asks: &[Ask<Sector>],
 ) -> Result<Result<Vec<Answer>, Refusal>, AllocError>
-    ensures { IfOk result (λ r. MatchResult r (λ v. Answered name count window (map ask_of asks.now) v.items) (λ e. (makes count 16 window ≡ false) × (e ≡ WrongSizes))) }
+    ensures { IfOk result (λ r. MatchResult r
+        (λ v. Answered name count window (map ask_of asks.now) v.items)
+        (λ e. (makes count 16 window ≡ false) × (e ≡ WrongSizes))) }
 {
     match name {
         SchemeName::Full => answers_over(heap, &mut Full::new(), count, window, asks),

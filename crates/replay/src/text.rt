@@ -54,7 +54,9 @@ fn text_of_answers(
 /// The text that answers a schedule. The number of each line is 16 bits: a schedule has no line with a number above 14,999.
 pub fn text_of(heap: Global, calls: Calls) -> Result<String, AllocError>
     requires { length calls.asks.items + 2 < 2 ^ 16 }
-    ensures { IfOk result (λ text. (string_bytes text ≡ lines_from 1 (outcomes calls.setup (map ask_of calls.asks.items) (refused_by calls.stop))) × Lawfully calls.setup (map ask_of calls.asks.items)) }
+    ensures { IfOk result (λ text. (string_bytes text ≡
+        lines_from 1 (outcomes calls.setup (map ask_of calls.asks.items) (refused_by calls.stop))) ×
+        Lawfully calls.setup (map ask_of calls.asks.items)) }
 {
     let Calls { setup, asks, stop } = calls;
     let Some(setup) = setup else {

@@ -81,7 +81,8 @@ fn push_number(text: &mut String, number: u16) -> Result<(), AllocError>
 
 // Adds what stands behind the number in the line of a refusal.
 fn push_refusal(text: &mut String, refusal: Refusal) -> Result<(), AllocError>
-    ensures { Adds (string_bytes text.old) (string_bytes text.new) result (32 ∷ (spoken (Answer.Refused refusal) ++ 10 ∷ [])) }
+    ensures { Adds (string_bytes text.old) (string_bytes text.new) result
+        (32 ∷ (spoken (Answer.Refused refusal) ++ 10 ∷ [])) }
 {
     text.push_str(" refused ")?;
     push_number(text, u16::from(u8::from(refusal)))?;
@@ -137,7 +138,8 @@ fn push_numbered(text: &mut String, first: u16, answers: &[Answer]) -> Result<()
 /// 14,999. Where memory runs out, what stood before stays at the front of the text.
 #[tactic(auto, using(std::proofs::lemmas::List::take_min))]
 pub fn push_lines(text: &mut String, first: u16, answers: &[Answer]) -> Result<(), AllocError>
-    ensures { Adds (string_bytes text.old) (string_bytes text.new) result (lines_from first (take (65535 - first) answers.now)) }
+    ensures { Adds (string_bytes text.old) (string_bytes text.new) result
+        (lines_from first (take (65535 - first) answers.now)) }
 {
     let numbered = answers.len().min(usize::from(u16::MAX - first));
     push_numbered(text, first, &answers[..numbered])

@@ -56,7 +56,9 @@ fn cut(rest: &[u8]) -> Option<(&[u8], &[u8])>
 
 // What a record says, if it may stand there: the first is a setup, and no other is.
 fn content_at(first: bool, bytes: &[u8]) -> Result<Record, Refusal>
-    ensures cases { MatchResult result (λ r. content_at first bytes.now ≡ Some r) (λ e. (content_at first bytes.now ≡ None) × (e ≡ BadRecord)) }
+    ensures cases { MatchResult result
+        (λ r. content_at first bytes.now ≡ Some r)
+        (λ e. (content_at first bytes.now ≡ None) × (e ≡ BadRecord)) }
     ensures says { IfOk result (λ r. bytes.now ≡ fields r) }
 {
     let content = Record::try_from(bytes)?;

@@ -19,7 +19,8 @@ use schemes::version::Version;
 
 /// Places 0 and 16 share a slot: seat 0 marks the one, seat 1 the other and so takes the slot, and seat 0 has no mark left.
 pub fn owner_loses_its_slot() -> Result<(Owner, Option<Place>), Refusal>
-    ensures scheme { IsOkAnd result (λ r. owner_state r.0 ≡ owner_act (reserve 1 16) (owner_act (reserve 0 0) owner_new)) }
+    ensures scheme { IsOkAnd result
+        (λ r. owner_state r.0 ≡ owner_act (reserve 1 16) (owner_act (reserve 0 0) owner_new)) }
     ensures answer { IsOkAnd result (λ r. r.1 ≡ None) }
 {
     let seat = Seat::try_from(0)?;
@@ -31,7 +32,8 @@ pub fn owner_loses_its_slot() -> Result<(Owner, Option<Place>), Refusal>
 
 // Seat t marks p, seat u marks q, and t asks.
 fn run_owner(t: Seat, p: Place, u: Seat, q: Place) -> (Owner, Option<Place>)
-    ensures scheme { owner_state result.0 ≡ owner_act (reserve u.number q.number) (owner_act (reserve t.number p.number) owner_new) }
+    ensures scheme { owner_state result.0 ≡ owner_act (reserve u.number q.number)
+        (owner_act (reserve t.number p.number) owner_new) }
     ensures answer { numbered result.1 ≡ owner_get (owner_state result.0) t.number }
 {
     let mut scheme = Owner::new();
@@ -43,7 +45,8 @@ fn run_owner(t: Seat, p: Place, u: Seat, q: Place) -> (Owner, Option<Place>)
 
 /// With every counter at its last number a mark on place 1 does not outlive a revoke of 17, whose slot it shares.
 pub fn version_starts_again() -> Result<(Version, Option<Place>), Refusal>
-    ensures scheme { IsOkAnd result (λ r. version_state r.0.kept ≡ version_act (revoke 17) (version_act (reserve 0 1) (version_new 4294967295))) }
+    ensures scheme { IsOkAnd result (λ r. version_state r.0.kept ≡
+        version_act (revoke 17) (version_act (reserve 0 1) (version_new 4294967295))) }
     ensures answer { IsOkAnd result (λ r. r.1 ≡ None) }
 {
     let seat = Seat::try_from(0)?;
@@ -54,7 +57,8 @@ pub fn version_starts_again() -> Result<(Version, Option<Place>), Refusal>
 
 // Counters at `start`; seat t marks p, q is revoked, and t asks.
 fn run_version(start: u32, t: Seat, p: Place, q: Place) -> (Version, Option<Place>)
-    ensures scheme { version_state result.0.kept ≡ version_act (revoke q.number) (version_act (reserve t.number p.number) (version_new start)) }
+    ensures scheme { version_state result.0.kept ≡
+        version_act (revoke q.number) (version_act (reserve t.number p.number) (version_new start)) }
     ensures answer { numbered result.1 ≡ version_get (version_state result.0.kept) t.number }
 {
     let mut scheme = Version::new(start);

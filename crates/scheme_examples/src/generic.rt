@@ -19,7 +19,8 @@ pub fn reserve_and_revoke<S: Scheme>(scheme: &mut S, t: Seat, p: Place) -> Optio
 
 /// Seat t lets its mark go and marks place p: the two orders together mean what the second means.
 pub fn move_mark<S: Scheme>(scheme: &mut S, t: Seat, p: Place)
-    ensures means { Means S.Scheme.strict (reserve t.number p.number) (S.Scheme.table scheme.old) (S.Scheme.table scheme.new) }
+    ensures means { Means S.Scheme.strict (reserve t.number p.number) (S.Scheme.table scheme.old)
+        (S.Scheme.table scheme.new) }
     ensures acts { Along S.Scheme.acts (release t.number ∷ (reserve t.number p.number ∷ [])) scheme.old scheme.new }
 {
     scheme.release(t);
@@ -28,7 +29,8 @@ pub fn move_mark<S: Scheme>(scheme: &mut S, t: Seat, p: Place)
 
 /// Seat u marks place p and seat t asks: on a strict scheme its mark is the one that it had, unless it is u itself.
 pub fn mark_beside_another<S: Strict>(scheme: &mut S, t: Seat, u: Seat, p: Place) -> Option<Place>
-    ensures answer { numbered result ≡ (if nat_eq t.number u.number then Some p.number else S.Scheme.table scheme.old t.number) }
+    ensures answer { numbered result ≡
+        (if nat_eq t.number u.number then Some p.number else S.Scheme.table scheme.old t.number) }
     ensures acts { S.Scheme.acts (reserve u.number p.number) scheme.old scheme.new }
 {
     let _ = S::is_strict();

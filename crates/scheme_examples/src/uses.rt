@@ -49,19 +49,22 @@ pub fn revoked_at_each(
 /// A function for each scheme, though each only calls the generic one: its clause says what the generic promise comes to at that scheme, in the
 /// words of that scheme.
 pub fn move_in_full(full: &mut Full, t: Seat, p: Place)
-    ensures { full_state full.new ≡ full_act (reserve t.number p.number) (full_act (release t.number) (full_state full.old)) }
+    ensures { full_state full.new ≡ full_act (reserve t.number p.number)
+        (full_act (release t.number) (full_state full.old)) }
 {
     move_mark(full, t, p);
 }
 
 pub fn move_in_owner(owner: &mut Owner, t: Seat, p: Place)
-    ensures { owner_state owner.new ≡ owner_act (reserve t.number p.number) (owner_act (release t.number) (owner_state owner.old)) }
+    ensures { owner_state owner.new ≡ owner_act (reserve t.number p.number)
+        (owner_act (release t.number) (owner_state owner.old)) }
 {
     move_mark(owner, t, p);
 }
 
 pub fn move_in_version(version: &mut Version, t: Seat, p: Place)
-    ensures { version_state version.new.kept ≡ version_act (reserve t.number p.number) (version_act (release t.number) (version_state version.old.kept)) }
+    ensures { version_state version.new.kept ≡ version_act (reserve t.number p.number)
+        (version_act (release t.number) (version_state version.old.kept)) }
 {
     move_mark(version, t, p);
 }
@@ -75,7 +78,8 @@ pub fn move_in_nested(nested: &mut Nested, t: Seat, p: Place)
 }
 
 pub fn beside_another_in_full(full: &mut Full, t: Seat, u: Seat, p: Place) -> Option<Place>
-    ensures answer { numbered result ≡ (if nat_eq t.number u.number then Some p.number else full_get (full_state full.old) t.number) }
+    ensures answer { numbered result ≡
+        (if nat_eq t.number u.number then Some p.number else full_get (full_state full.old) t.number) }
     ensures acts { full_state full.new ≡ full_act (reserve u.number p.number) (full_state full.old) }
 {
     mark_beside_another(full, t, u, p)

@@ -23,7 +23,8 @@ fn uses_second(bit: BankBit, t: Seat) -> bool
 impl<F: Scheme, S: Scheme> Pair<F, S> {
     /// The two schemes as they are.
     pub fn new(first: F, second: S, bit: BankBit) -> Pair<F, S>
-        ensures table { pair_table F.Scheme.table S.Scheme.table result ≡ banked bit.number (F.Scheme.table first) (S.Scheme.table second) }
+        ensures table { pair_table F.Scheme.table S.Scheme.table result ≡
+            banked bit.number (F.Scheme.table first) (S.Scheme.table second) }
         ensures exact { result ≡ paired first second bit }
     {
         Pair { first, second, bit }

@@ -56,7 +56,8 @@ impl Stamps {
         requires { (slot < 16) × (slice_index self.old.counters slot < 4294967295) }
         ensures sixteen { Sixteens self.old.marks self.old.counters }
         ensures marks { self.new.marks ≡ self.old.marks }
-        ensures counters { self.new.counters ≡ slice_set self.old.counters slot (slice_index self.old.counters slot + 1) }
+        ensures counters { self.new.counters ≡
+            slice_set self.old.counters slot (slice_index self.old.counters slot + 1) }
     {
         self.counters[slot] += 1;
     }

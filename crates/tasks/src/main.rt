@@ -33,7 +33,9 @@ fn run_tasks<S: Scheme + Drop>(
     lines: &mut [Line],
 ) -> Result<Closed<S>, Refusal>
     ensures turns { map (λ (l : Line). l.turn) lines.new ≡ map (λ (l : Line). l.turn) lines.old }
-    ensures ran { MatchResult result (λ end. RanTasks S.Scheme.table S.Scheme.strict S.Scheme.acts cells scheme window host cleaner lines.new end) (λ e. (lines.new ≡ lines.old) × (not_opened (length cells) window host cleaner ≡ Some e)) }
+    ensures ran { MatchResult result
+        (λ end. RanTasks S.Scheme.table S.Scheme.strict S.Scheme.acts cells scheme window host cleaner lines.new end)
+        (λ e. (lines.new ≡ lines.old) × (not_opened (length cells) window host cleaner ≡ Some e)) }
 {
     let mut station = Station::open(cells, scheme, window, host, cleaner)?;
     station.play(lines);

@@ -45,7 +45,8 @@ pub struct Closed<S> {
 
 // The call that is asked, made by showing a slip.
 fn show<S: Scheme>(slip: &Slip, index: &mut Index<'_, Wear, S>, mask: &mut Mask, ask: Ask) -> Answer
-    ensures called { CalledOn wear_below S.Scheme.table S.Scheme.strict S.Scheme.acts index.old (what_asked ask) slip.now.seat mask.old.level result index.new }
+    ensures called { CalledOn wear_below S.Scheme.table S.Scheme.strict S.Scheme.acts index.old (what_asked ask)
+        slip.now.seat mask.old.level result index.new }
     ensures level { mask.new.level ≡ mask.old.level }
 {
     match ask {
@@ -105,7 +106,8 @@ impl<S: Scheme + Drop> Station<S> {
         host: u8,
         cleaner: u8,
     ) -> Result<Station<S>, Refusal>
-        ensures begun { IfOk result (λ d. Begun S.Scheme.table S.Scheme.strict S.Scheme.acts cells scheme window host cleaner d) }
+        ensures begun { IfOk result
+            (λ d. Begun S.Scheme.table S.Scheme.strict S.Scheme.acts cells scheme window host cleaner d) }
         ensures seats { IfOk result (λ d. (d.host.seat ≡ host) × (d.cleaner.seat ≡ cleaner)) }
         ensures refused { IfErr result (λ e. not_opened (length cells) window host cleaner ≡ Some e) }
     {
@@ -139,7 +141,8 @@ impl<S: Scheme + Drop> Station<S> {
 
     // A task makes a call, showing its slip.
     pub(crate) fn take(&mut self, turn: Turn) -> Answer
-        ensures called { Called S.Scheme.table S.Scheme.strict S.Scheme.acts (state self.old) (call self.old turn) result (state self.new) }
+        ensures called { Called S.Scheme.table S.Scheme.strict S.Scheme.acts (state self.old) (call self.old turn)
+            result (state self.new) }
         ensures same { SameStation self.old self.new }
     {
         let slip = slip_of(turn.task, &self.host, &self.cleaner);
@@ -172,7 +175,8 @@ impl<S: Scheme + Drop> Station<S> {
 
     // A task takes its turn, and what is seen of it.
     pub(crate) fn watch(&mut self, turn: Turn) -> Seen
-        ensures called { Called S.Scheme.table S.Scheme.strict S.Scheme.acts (state self.old) (call self.old turn) result.answer (state self.new) }
+        ensures called { Called S.Scheme.table S.Scheme.strict S.Scheme.acts (state self.old) (call self.old turn)
+            result.answer (state self.new) }
         ensures before { Marked S.Scheme.table self.old result.before }
         ensures width { result.width ≡ reach_in S.Scheme.table self.old turn.task }
         ensures after { Marked S.Scheme.table self.new result.after }

@@ -15,11 +15,15 @@ use schemes::version::Version;
 /// given cells, windows of 1 to 64 and every value that the scheme's code makes, and after every run every call. A pair can then carry out
 /// its own orders, so the same holds of pairs of pairs.
 pub fn runs_are_there_by_name<K: Key, F: Scheme, S: Scheme>() -> u8
-    ensures full { let it = ⟦<Full as Scheme>⟧ in ThereAreRuns K.Key.below it.table it.strict it.acts full_formed 1008 64 }
-    ensures owner { let it = ⟦<Owner as Scheme>⟧ in ThereAreRuns K.Key.below it.table it.strict it.acts owner_formed 1008 64 }
-    ensures version { let it = ⟦<Version as Scheme>⟧ in ThereAreRuns K.Key.below it.table it.strict it.acts version_formed 1008 64 }
+    ensures full { let it = ⟦<Full as Scheme>⟧ in
+        ThereAreRuns K.Key.below it.table it.strict it.acts full_formed 1008 64 }
+    ensures owner { let it = ⟦<Owner as Scheme>⟧ in
+        ThereAreRuns K.Key.below it.table it.strict it.acts owner_formed 1008 64 }
+    ensures version { let it = ⟦<Version as Scheme>⟧ in
+        ThereAreRuns K.Key.below it.table it.strict it.acts version_formed 1008 64 }
     ensures pair { let it = ⟦<Pair<F, S> as Scheme>⟧ in (first : F → Bool) (second : S → Bool) →
-        Able F.Scheme.table F.Scheme.strict F.Scheme.acts first → Able S.Scheme.table S.Scheme.strict S.Scheme.acts second →
+        Able F.Scheme.table F.Scheme.strict F.Scheme.acts first →
+        Able S.Scheme.table S.Scheme.strict S.Scheme.acts second →
         ThereAreRuns K.Key.below it.table it.strict it.acts (pair_formed first second) 1008 64 }
 {
     proved::runs_are_there_by_name::<K, F, S>()
@@ -28,8 +32,8 @@ pub fn runs_are_there_by_name<K: Key, F: Scheme, S: Scheme>() -> u8
 /// And over full and owner side by side with version beside them: what is promised of two schemes, used twice.
 pub fn runs_are_there_over_a_pair_of_a_pair<K: Key>() -> u8
     ensures { let it = ⟦<Pair<Pair<Full, Owner>, Version> as Scheme>⟧ in
-        ThereAreRuns K.Key.below it.table it.strict it.acts (pair_formed (pair_formed full_formed owner_formed) version_formed)
-        1008 64 }
+        ThereAreRuns K.Key.below it.table
+        it.strict it.acts (pair_formed (pair_formed full_formed owner_formed) version_formed) 1008 64 }
 {
     proved::runs_are_there_over_a_pair_of_a_pair::<K>()
 }

@@ -26,11 +26,15 @@ pub fn promises_are_sharp() -> u8
 }
 
 pub fn runs_are_there_by_name<K: Key, F: Scheme, S: Scheme>() -> u8
-    ensures full { let it = ⟦<Full as Scheme>⟧ in ThereAreRuns K.Key.below it.table it.strict it.acts full_formed 1008 64 }
-    ensures owner { let it = ⟦<Owner as Scheme>⟧ in ThereAreRuns K.Key.below it.table it.strict it.acts owner_formed 1008 64 }
-    ensures version { let it = ⟦<Version as Scheme>⟧ in ThereAreRuns K.Key.below it.table it.strict it.acts version_formed 1008 64 }
+    ensures full { let it = ⟦<Full as Scheme>⟧ in
+        ThereAreRuns K.Key.below it.table it.strict it.acts full_formed 1008 64 }
+    ensures owner { let it = ⟦<Owner as Scheme>⟧ in
+        ThereAreRuns K.Key.below it.table it.strict it.acts owner_formed 1008 64 }
+    ensures version { let it = ⟦<Version as Scheme>⟧ in
+        ThereAreRuns K.Key.below it.table it.strict it.acts version_formed 1008 64 }
     ensures pair { let it = ⟦<Pair<F, S> as Scheme>⟧ in (first : F → Bool) (second : S → Bool) →
-        Able F.Scheme.table F.Scheme.strict F.Scheme.acts first → Able S.Scheme.table S.Scheme.strict S.Scheme.acts second →
+        Able F.Scheme.table F.Scheme.strict F.Scheme.acts first →
+        Able S.Scheme.table S.Scheme.strict S.Scheme.acts second →
         ThereAreRuns K.Key.below it.table it.strict it.acts (pair_formed first second) 1008 64 }
 {
     0
@@ -38,8 +42,8 @@ pub fn runs_are_there_by_name<K: Key, F: Scheme, S: Scheme>() -> u8
 
 pub fn runs_are_there_over_a_pair_of_a_pair<K: Key>() -> u8
     ensures { let it = ⟦<Pair<Pair<Full, Owner>, Version> as Scheme>⟧ in
-        ThereAreRuns K.Key.below it.table it.strict it.acts (pair_formed (pair_formed full_formed owner_formed) version_formed)
-        1008 64 }
+        ThereAreRuns K.Key.below it.table
+        it.strict it.acts (pair_formed (pair_formed full_formed owner_formed) version_formed) 1008 64 }
 {
     runs_are_there_by_name::<K, Full, Owner>();
     runs_are_there_by_name::<K, Pair<Full, Owner>, Version>()
