@@ -13,8 +13,8 @@ use keys::key::Key;
 use marks::scheme::Scheme;
 
 /// Every run is lawful: each answer is the ledger's, each wait is where the rule has it, the cells are sound after every
-/// call, and on a strict scheme an operation of seat t has answered after (k + 1) × (1 + ⌊(n - f) / w⌋) + 1 accepted steps where
-/// its width from the head, f, is at most n, and after one where it is more.
+/// call. On a strict scheme an operation of a seat whose windows from the head are f wide has answered with its first accepted step if f is
+/// larger than n, and else once it has had (k + 1) × (1 + ⌊(n - f) / w⌋) + 1 of them.
 pub fn every_run_is_lawful<K: Key, S: Scheme>() -> u8
     ensures { Law K.Key.below S.Scheme.table S.Scheme.strict
         S.Scheme.acts (λ n w t kind k. suc k * most_waits n w t + 1) }
