@@ -1,5 +1,5 @@
 // The walk of a window along the links.
-ghost use Rattle.std.specs.Prelude.{◌≡◌, pred, ◌<◌, ◌&&◌, map, length, Some, None};
+ghost use Rattle.std.specs.Prelude.{◌≡◌, pred, ◌<◌, ◌≤◌, ◌&&◌, map, length, Some, None};
 ghost use Rattle.std.specs.List.{slice_get};
 ghost use Rattle.marks.specs.Marks.{numbered};
 ghost use Rattle.list_law.specs.Call.{met, walk, walked};
@@ -119,25 +119,27 @@ fn walk_from_head<K: Key>(
     }
 }
 
-/// The walk of a window: from behind the marked cell, which must be a listed one, or from the head. It meets one cell more than it has room to pass,
-/// and ends there.
+/// The walk of a window that is so many cells wide: from behind the marked cell, which must be a listed one, or from the head. It ends at the last of the
+/// cells that it may meet.
 #[inline(always)]
 pub fn walk_from<K: Key>(
     cells: &[Cell<K>],
     head: Option<Place>,
     target: K,
-    room: u8,
+    width: u8,
     mark: Option<Place>,
 ) -> Option<Met>
-    ensures { met_of result ≡ walked K.Key.below (map cell_of cells.now) (numbered head) target room (numbered mark) }
+    requires { 1 ≤ width }
+    ensures { met_of result ≡
+        walked K.Key.below (map cell_of cells.now) (numbered head) target (pred width) (numbered mark) }
 {
-    let room = usize::from(room);
+    let width = usize::from(width);
     let Some(place) = mark else {
-        return walk_from_head(cells, head, target, room);
+        return walk_from_head(cells, head, target, width - 1);
     };
     let cell = cell_at(cells, place)?;
     if cell.listed {
-        walk_on(cells, target, room + 1, place)
+        walk_on(cells, target, width, place)
     } else {
         None
     }

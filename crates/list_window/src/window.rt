@@ -21,9 +21,11 @@ use marks::scheme::Scheme;
 /// How many cells the next window of a seat may meet: from a mark as many as the anchor has it, from the head by the seat, so that tasks that
 /// begin together do not all wait at one cell.
 #[tactic(auto, unfolding(list_law::specs::Call::reach))]
+#[inline(always)]
 pub fn width(seat: Seat, window: u8, mark: Option<Place>) -> u8
     requires { 1 ≤ window }
-    ensures { result ≡ reach seat.number window (numbered mark) }
+    ensures width { result ≡ reach seat.number window (numbered mark) }
+    ensures some { 1 ≤ result }
 {
     match mark {
         Some(_) => window,
@@ -44,8 +46,8 @@ fn walk_behind<K: Key>(
     ensures { met_of result ≡ walked K.Key.below (map cell_of cells.now) (numbered anchor.now.head) target
         (pred (reach seat.number anchor.now.window (numbered mark))) (numbered mark) }
 {
-    let room = width(seat, anchor.window, mark).saturating_sub(1);
-    walk_from(cells, anchor.head, target, room, mark)
+    let most = width(seat, anchor.window, mark);
+    walk_from(cells, anchor.head, target, most, mark)
 }
 
 impl<K: Key, S: Scheme> Index<'_, K, S> {

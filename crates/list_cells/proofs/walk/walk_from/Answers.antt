@@ -1,5 +1,5 @@
 -- The marked cell is listed, and the walk goes on behind it.
-use Rattle.std.proofs.Common.{◌≡◌, suc, ◌+◌, map, sym, ap, ◌∙◌, arith}
+use Rattle.std.proofs.Common.{◌≡◌, ◌≤◌, suc, pred, map, sym, ap, ◌∙◌, arith}
 use Rattle.std.proofs.lemmas.Bool.{cond-true}
 use Rattle.marks.specs.Marks.{numbered}
 use Rattle.list_law.specs.Call.{walked, resumed}
@@ -15,12 +15,14 @@ returns-then-cell g c =
     let x = c.args.target in
     let place = c.in-Some.place.number in
     let cell = cell_of c.in_ok-cell.cell.now in
-    let read : ◌≡◌ c.from-room.result c.args.room = c.from-room.ensures in
-    let more : ◌≡◌ (c.from-room.result + 1) (suc c.args.room) = omega arith in
+    let room = pred c.args.width in
+    let read : ◌≡◌ c.from-width.result c.args.width = c.from-width.ensures in
+    let wide : 1 ≤ c.args.width = c.requires in
+    let one_more : ◌≡◌ c.from-width.result (suc room) = omega (arith, read, wide) in
     c.walk_on.ensures
-    ∙ sym (from_here below cells x (c.from-room.result + 1) place cell (sym c.in_ok-cell.ensures))
-    ∙ ap (λ n. behind below cells x n place cell.link) more
-    ∙ walk_one_more below cells x c.args.room place cell.link
+    ∙ sym (from_here below cells x c.from-width.result place cell (sym c.in_ok-cell.ensures))
+    ∙ ap (λ n. behind below cells x n place cell.link) one_more
+    ∙ walk_one_more below cells x room place cell.link
     ∙ sym (cond-true cell.listed _ _ c.if-cell.true)
-    ∙ ap (resumed below cells x c.args.room place) c.in_ok-cell.ensures
-    ∙ ap (λ m. walked below cells (numbered c.args.head) x c.args.room (numbered m)) (sym c.in-Some.is)
+    ∙ ap (resumed below cells x room place) c.in_ok-cell.ensures
+    ∙ ap (λ m. walked below cells (numbered c.args.head) x room (numbered m)) (sym c.in-Some.is)
