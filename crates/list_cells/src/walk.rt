@@ -2,7 +2,7 @@
 ghost use Rattle.std.specs.Prelude.{◌≡◌, pred, ◌<◌, ◌≤◌, ◌&&◌, map, length, Some, None};
 ghost use Rattle.std.specs.List.{slice_get};
 ghost use Rattle.marks.specs.Marks.{numbered};
-ghost use Rattle.list_law.specs.Call.{met, walk, walked};
+ghost use Rattle.list_law.specs.Call.{met, walk, walked, resumed};
 ghost use Rattle.list_cells.specs.Behind.{behind_at};
 ghost use Rattle.list_cells.specs.Links.{place_named};
 ghost use Rattle.list_cells.specs.Views.{cell_of, found_of, met_of};
@@ -119,6 +119,22 @@ fn walk_from_head<K: Key>(
     }
 }
 
+// The walk of a window that is so many cells wide, from behind a marked cell, which must be a listed one.
+#[inline(always)]
+fn walk_from_mark<K: Key>(cells: &[Cell<K>], target: K, width: usize, place: Place) -> Option<Met>
+    requires { 1 ≤ width }
+    ensures { met_of result ≡
+        resumed K.Key.below (map cell_of cells.now) target (pred width) place.number
+        (slice_get (map cell_of cells.now) place.number) }
+{
+    let cell = cell_at(cells, place)?;
+    if cell.listed {
+        walk_on(cells, target, width, place)
+    } else {
+        None
+    }
+}
+
 /// The walk of a window that is so many cells wide: from behind the marked cell, which must be a listed one, or from the head. It ends at the last of the
 /// cells that it may meet.
 #[inline(always)]
@@ -137,10 +153,5 @@ pub fn walk_from<K: Key>(
     let Some(place) = mark else {
         return walk_from_head(cells, head, target, width - 1);
     };
-    let cell = cell_at(cells, place)?;
-    if cell.listed {
-        walk_on(cells, target, width, place)
-    } else {
-        None
-    }
+    walk_from_mark(cells, target, width, place)
 }

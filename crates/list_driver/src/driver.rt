@@ -1,5 +1,5 @@
 // The driver: makes an index and runs a list of calls on it.
-ghost use Rattle.std.specs.Prelude.{◌≡◌, [], map, length};
+ghost use Rattle.std.specs.Prelude.{◌≡◌, ◌==◌, [], map, length};
 ghost use Rattle.list_driver.specs.Asks.{ask_of, driving_case, Ran};
 ghost use Rattle.list.specs.Calls.{CalledOn};
 ghost use Rattle.list_window.specs.Turns.{what_of};
@@ -55,6 +55,13 @@ fn drive<K: Key, S: Scheme>(
     }
 }
 
+// Whether there is room for the answer of each call, and for no more.
+fn room_for_each(calls: usize, answers: usize) -> bool
+    ensures { result ≡ (calls == answers) }
+{
+    calls == answers
+}
+
 /// Makes an index over what is lent and runs the calls on it, each at its own mask level, and writes their answers; the mask is then as it
 /// was. Refused, with nothing altered, where there are not as many answers as calls or the sizes do not fit.
 pub fn run_calls<K: Key, S: Scheme>(
@@ -72,7 +79,7 @@ pub fn run_calls<K: Key, S: Scheme>(
     ensures level { mask.new.level ≡ mask.old.level }
     ensures same { SameLent index.old index.new }
 {
-    if asks.len() != answers.len() {
+    if !room_for_each(asks.len(), answers.len()) {
         return Err(Refusal::WrongSizes);
     }
     make(index, window)?;

@@ -4,7 +4,7 @@ ghost use Rattle.marks.specs.Marks.{numbered};
 ghost use Rattle.marks.specs.Meaning.{Along};
 ghost use Rattle.list_law.specs.Call.{cell, away, Obeys};
 ghost use Rattle.list_law.specs.Runs.{chained};
-ghost use Rattle.list_law.specs.Making.{releases, Makes};
+ghost use Rattle.list_law.specs.Making.{makes, releases, Makes};
 ghost use Rattle.list_cells.specs.Views.{cell_of, anchor_of};
 ghost use Rattle.list_window.specs.Rows.{row_of};
 ghost use Rattle.list_window.specs.Lent.{lent_state, SameLent};
@@ -91,6 +91,13 @@ fn fresh_anchor(count: usize, window: u8) -> Anchor
     }
 }
 
+// Whether the index has sizes that making takes.
+fn sizes_right<K: Key, S: Scheme>(index: &Index<'_, K, S>, window: u8) -> bool
+    ensures { result ≡ makes (length index.now.cells.now) (length index.now.rows.now) window }
+{
+    sizes_fit(index.cells.len(), index.rows.len(), window)
+}
+
 /// Makes an index over what it is lent: 1 to 1,008 cells, all of which become free, sixteen rows, which become away, a window of 1 to
 /// 64, and every mark released. Other sizes are refused with 2, and nothing is altered. It runs before any task does, so it raises no mask.
 pub fn make<K: Key, S: Scheme>(index: &mut Index<'_, K, S>, window: u8) -> Result<(), Refusal>
@@ -101,7 +108,7 @@ pub fn make<K: Key, S: Scheme>(index: &mut Index<'_, K, S>, window: u8) -> Resul
     ensures same { SameLent index.old index.new }
 {
     let count = index.cells.len();
-    if !sizes_fit(count, index.rows.len(), window) {
+    if !sizes_right(index, window) {
         return Err(Refusal::WrongSizes);
     }
     free_cells(index.cells);

@@ -1,7 +1,7 @@
 // The lines that answer a schedule.
 ghost use Rattle.std.specs.Prelude.{◌≡◌, ◌+◌, ◌-◌, ◌/◌, ◌%◌, ◌<◌, ◌≤◌, ◌^◌, [], ◌∷◌, ◌++◌, length, take, IfOk, string_bytes, decimal};
 ghost use Rattle.basis.specs.Answers.{spoken};
-ghost use Rattle.schedule.specs.Lines.{line_text, lines_from, Adds};
+ghost use Rattle.schedule.specs.Lines.{line_of, line_text, lines_from, Adds};
 
 use crate::line::Line;
 use basis::answer::Answer;
@@ -134,15 +134,36 @@ fn push_numbered(text: &mut String, first: u16, answers: &[Answer]) -> Result<()
     Ok(())
 }
 
-/// Adds the lines of answers one after another, the first with that number, as far as their numbers are below 65,535; no schedule has one above
-/// 14,999. Where memory runs out, what stood before stays at the front of the text.
-#[tactic(auto, using(std::proofs::lemmas::List::take_min))]
+// Adds a line by a number of any size; that of a `Line` has 16 bits.
+fn push_wide(text: &mut String, number: usize, answer: Answer) -> Result<(), AllocError>
+    ensures { Adds (string_bytes text.old) (string_bytes text.new) result (line_of number answer) }
+{
+    let mut digits = Buffer::new();
+    text.push_str(digits.format(number))?;
+    push_answer(text, answer)
+}
+
+// The same for the lines whose numbers may not have a number after them of 16 bits. No schedule has so many records.
+#[tactic(auto, using(std::proofs::lemmas::Grind::common_steps, crate::proofs::Numbered::lines_more), unfolding(crate::specs::Lines::lines_from))]
+fn push_past(text: &mut String, first: usize, answers: &[Answer]) -> Result<(), AllocError>
+    requires { first ≤ 65535 }
+    ensures { Adds (string_bytes text.old) (string_bytes text.new) result (lines_from first answers.now) }
+{
+    for (index, answer) in answers.iter().enumerate() {
+        push_wide(text, first + index, *answer)?;
+    }
+    Ok(())
+}
+
+/// Adds the lines of answers one after another, the first with that number, however many there are. Where memory runs out, what stood before
+/// stays at the front of the text.
+#[tactic(auto, using(std::proofs::lemmas::Grind::common_steps, crate::proofs::Numbered::lines_join, std::proofs::lemmas::List::take_min))]
 pub fn push_lines(text: &mut String, first: u16, answers: &[Answer]) -> Result<(), AllocError>
-    ensures { Adds (string_bytes text.old) (string_bytes text.new) result
-        (lines_from first (take (65535 - first) answers.now)) }
+    ensures { Adds (string_bytes text.old) (string_bytes text.new) result (lines_from first answers.now) }
 {
     let numbered = answers.len().min(usize::from(u16::MAX - first));
-    push_numbered(text, first, &answers[..numbered])
+    push_numbered(text, first, &answers[..numbered])?;
+    push_past(text, usize::from(first) + numbered, &answers[numbered..])
 }
 
 /// A text of one line.

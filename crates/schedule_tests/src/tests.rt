@@ -7,7 +7,7 @@ use replay::opening::answer_opening;
 use replay::replay;
 use schedule::contents::read_whole;
 use schedule::input::read_schedule;
-use schedule::lines::{line, text_of_line};
+use schedule::lines::{line, push_lines, text_of_line};
 use schedule::reader::Reader;
 use std::alloc::Global;
 use std::process::Abort;
@@ -272,6 +272,24 @@ fn lines_have_their_number_and_answer(rt: HostRuntime) -> Result<(), Fail> {
     for (number, answer, text) in cases {
         check_line(&rt, heap, number, answer, text)?;
     }
+    Ok(())
+}
+
+// No schedule has so many records, and a list of answers may.
+#[test]
+fn lines_go_on_past_16_bits(rt: HostRuntime) -> Result<(), Fail> {
+    let mut text = String::from_str(rt.alloc(), "before ")?;
+    let answers = [
+        Answer::Yes,
+        Answer::No,
+        Answer::Wait,
+        Answer::Refused(Refusal::BadLink),
+    ];
+    push_lines(&mut text, 65534, &answers)?;
+    assert_eq!(rt;
+        text.as_str(),
+        "before 65534 yes\n65535 no\n65536 wait\n65537 refused 8\n"
+    );
     Ok(())
 }
 

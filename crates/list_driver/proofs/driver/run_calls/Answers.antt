@@ -1,7 +1,7 @@
 -- Making begins the run that the calls go on with, or refuses, and then nothing is altered.
 use Rattle.std.proofs.Common.{◌≡◌, ℕ, Bool, true, false, cond, ◌&&◌, List, map, length, refl, sym, ap, ◌∙◌, rules}
 use Rattle.std.proofs.lemmas.List.{length-map}
-use Rattle.std.proofs.lemmas.Bool.{both_ways, cond-true, cond-false, eq-eqb}
+use Rattle.std.proofs.lemmas.Bool.{both_ways, cond-true, cond-false, eq-eqb, eqb-true}
 use Rattle.basis.specs.declared.answer.Answer.TheVariants.{Refused}
 use Rattle.basis.specs.declared.answer.Answer.{Answer}
 use Rattle.basis.specs.declared.refusal.Refusal.{Refusal}
@@ -37,7 +37,7 @@ returns-in_err-make-clause-ran g c =
     let index = c.args.index.now in
     let made = c.in_err-make.ensures.made in
     let bad = refused _ _ made.answer in
-    let no = as_made cell_of row_of ask_of index.cells.now index.rows.now c.args.window c.args.asks.now (length c.args.answers.now) c.if-asks-answers.false ∙ bad in
+    let no = as_made cell_of row_of ask_of index.cells.now index.rows.now c.args.window c.args.asks.now (length c.args.answers.now) (eqb-true _ _ (sym c.if-not-room_for_each.ensures)) ∙ bad in
     let passed_on : settled c.from_residual.result ≡ Refused c.in_err-make.field-0.0 = search rules in
     record { answer = passed_on ∙ made.answer ∙ cond-false _ _ _ bad ∙ sym (cond-false _ _ _ no); driven = λ t. absurd (both_ways _ no t); same = λ _. (made.same bad, refl) }
 
@@ -47,7 +47,7 @@ drive-requires g c =
     let index = c.args.index.now in
     let fit = took _ made.answer in
     let same = c.make.ensures.same in (
-      c.if-asks-answers.false,
+      (eqb-true _ _ (sym c.if-not-room_for_each.ensures)),
       (
         same.rows ∙ (fits (length index.cells.now) (length index.rows.now) c.args.window (viewed cell_of row_of index.cells.now index.rows.now c.args.window ∙ fit)).rows,
         driven_at (length-map index.cells.now cell_of ∙ sym same.cells) (sym (ap (λ x. x.anchor.window) (made.made fit))) (driven_none g.K.Key.below g.S.Scheme.table g.S.Scheme.strict g.S.Scheme.acts _ _ _ (made.runs fit)),
@@ -59,7 +59,7 @@ returns-clause-ran g c =
     let made = c.in_ok-make.ensures.made in
     let index = c.args.index.now in
     let fit = took _ made.answer in
-    let yes = as_made cell_of row_of ask_of index.cells.now index.rows.now c.args.window c.args.asks.now (length c.args.answers.now) c.if-asks-answers.false ∙ fit in
+    let yes = as_made cell_of row_of ask_of index.cells.now index.rows.now c.args.window c.args.asks.now (length c.args.answers.now) (eqb-true _ _ (sym c.if-not-room_for_each.ensures)) ∙ fit in
     record {
       answer = sym (cond-true _ _ _ yes);
       driven = λ _. (lent_state c.make.new.index, made, driven_at c.make.ensures.same.cells (ap (λ x. x.anchor.window) (made.made fit)) c.drive.ensures.driven);

@@ -25,7 +25,7 @@ returns-clause-made g c =
     let rows = index.rows.now in
     let w = c.args.window in
     let marks = c.release_all.new.scheme in
-    let right = sym c.if-not-sizes_fit.ensures in
+    let right = sym c.if-not-sizes_right.ensures in
     let sized = fits (length cells) (length rows) w right in
     let anchor = c.fresh_anchor-index.ensures ∙ (λ i. record { count = sym (length-map cells cell_of) i; window = w; head = None; free = first_free (map cell_of cells) (omega (arith, length-map cells cell_of, sized.sizes.some_cells)) i }) in
     makes_accepted g.K.Key.below order g.S.Scheme.table g.S.Scheme.strict g.S.Scheme.acts (lent_state index) w _
