@@ -41,7 +41,8 @@ fn text_of_answers(
     stop: Option<Refusal>,
 ) -> Result<String, AllocError>
     requires { length answers.now + 2 < 2 ^ 16 }
-    ensures { IfOk result (λ text. string_bytes text ≡ lines_from 1 (Answer.Ok ∷ (answers.now ++ refused_by stop))) }
+    ensures { IfOk result (λ text. string_bytes text ≡
+        lines_from 1 (Answer.Ok ∷ (answers.now ++ refused_by stop))) }
 {
     // room for lines of the usual length
     let mut text = String::with_capacity(heap, answers.len().saturating_mul(12))?;

@@ -122,48 +122,29 @@ pub fn push_line(text: &mut String, line: Line) -> Result<(), AllocError>
     push_answer(text, line.answer)
 }
 
-// Adds the lines of answers one after another, the first with that number. The number after the last has to be a line's number too.
-#[tactic(auto, using(std::proofs::lemmas::Grind::common_steps, crate::proofs::Numbered::lines_more), unfolding(crate::specs::Lines::lines_from))]
-fn push_numbered(text: &mut String, first: u16, answers: &[Answer]) -> Result<(), AllocError>
-    requires { first + length answers.now < 2 ^ 16 }
-    ensures { Adds (string_bytes text.old) (string_bytes text.new) result (lines_from first answers.now) }
-{
-    for number in first..first + answers.len() as u16 {
-        push_line(text, line(number, answers[usize::from(number - first)]))?;
-    }
-    Ok(())
-}
-
-// Adds a line by a number of any size; that of a `Line` has 16 bits.
-fn push_wide(text: &mut String, number: usize, answer: Answer) -> Result<(), AllocError>
+// Adds a line by a number of any size: a `Line` has one of 16 bits, and no schedule has a line past those.
+#[inline(always)]
+fn push_numbered(text: &mut String, number: usize, answer: Answer) -> Result<(), AllocError>
     ensures { Adds (string_bytes text.old) (string_bytes text.new) result (line_of number answer) }
 {
+    if let Ok(number) = u16::try_from(number) {
+        return push_line(text, line(number, answer));
+    }
     let mut digits = Buffer::new();
     text.push_str(digits.format(number))?;
     push_answer(text, answer)
 }
 
-// The same for the lines whose numbers may not have a number after them of 16 bits. No schedule has so many records.
-#[tactic(auto, using(std::proofs::lemmas::Grind::common_steps, crate::proofs::Numbered::lines_more), unfolding(crate::specs::Lines::lines_from))]
-fn push_past(text: &mut String, first: usize, answers: &[Answer]) -> Result<(), AllocError>
-    requires { first ≤ 65535 }
-    ensures { Adds (string_bytes text.old) (string_bytes text.new) result (lines_from first answers.now) }
-{
-    for (index, answer) in answers.iter().enumerate() {
-        push_wide(text, first + index, *answer)?;
-    }
-    Ok(())
-}
-
 /// Adds the lines of answers one after another, the first with that number, however many there are. Where memory runs out, what stood before
 /// stays at the front of the text.
-#[tactic(auto, using(std::proofs::lemmas::Grind::common_steps, crate::proofs::Numbered::lines_join, std::proofs::lemmas::List::take_min))]
+#[tactic(auto, using(std::proofs::lemmas::Grind::common_steps, crate::proofs::Numbered::lines_more), unfolding(crate::specs::Lines::lines_from))]
 pub fn push_lines(text: &mut String, first: u16, answers: &[Answer]) -> Result<(), AllocError>
     ensures { Adds (string_bytes text.old) (string_bytes text.new) result (lines_from first answers.now) }
 {
-    let numbered = answers.len().min(usize::from(u16::MAX - first));
-    push_numbered(text, first, &answers[..numbered])?;
-    push_past(text, usize::from(first) + numbered, &answers[numbered..])
+    for (index, answer) in answers.iter().enumerate() {
+        push_numbered(text, usize::from(first) + index, *answer)?;
+    }
+    Ok(())
 }
 
 /// A text of one line.

@@ -1,6 +1,6 @@
 use Rattle.std.proofs.Common.{◌≡◌, ◌++◌, take, string_bytes}
 use Rattle.schedule.specs.Lines.{lines_from}
-use Rattle.schedule.proofs.lines.push_past.Given as goal
+use Rattle.schedule.proofs.lines.push_lines.Given as goal
 
 -- the lines of the answers so far
 abbrev pub invariant-loop-index : goal.invariant-loop-index
